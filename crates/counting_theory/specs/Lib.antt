@@ -1,0 +1,4 @@
+pub mod Ranks
+pub mod Votes
+pub mod Ballots
+pub mod Rows

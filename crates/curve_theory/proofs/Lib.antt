@@ -1,0 +1,15 @@
+pub mod Semigroup
+pub mod Places
+pub mod Values
+pub mod Normal
+pub mod Product
+pub mod Laws
+pub mod Examples
+pub mod Roots
+pub mod Separate
+pub mod Unique
+pub mod Exists
+pub mod CurveDomain
+pub mod Weights
+pub mod Equation
+pub mod Pairs

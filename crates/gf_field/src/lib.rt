@@ -1,0 +1,127 @@
+//! The fields GF(2^m) for m from 2 to 8. An element is a number below 2^m, whose bits are the coefficients of a
+//! polynomial over GF(2).
+#![tactic(auto)]
+
+mod polynomial;
+
+ghost use Rattle.std.specs.Prelude.{◌≡◌, ℕ, ◌<◌, ◌≤◌, ◌^◌, ◌≢◌, bit_xor, MatchOption};
+ghost use Rattle.gf_theory.specs.Field.{gf_mul, IsModulus};
+
+use polynomial::{is_irreducible, product};
+
+/// A field of characteristic 2, given by its number of bits and its modulus.
+pub trait Field: Drop {
+    ghost bits_of: { Self → ℕ };
+
+    ghost modulus_of: { Self → ℕ };
+
+    fn bits(&self) -> u32
+        ensures bits { result ≡ bits_of self.now }
+        ensures field { IsModulus (bits_of self.now) (modulus_of self.now) };
+
+    fn modulus(&self) -> u32
+        ensures { result ≡ modulus_of self.now };
+
+    fn add(&self, x: u8, y: u8) -> u8
+        requires left { x < 2 ^ bits_of self.now }
+        requires right { y < 2 ^ bits_of self.now }
+        ensures sum { result ≡ bit_xor x y }
+        ensures element { result < 2 ^ bits_of self.now };
+
+    fn mul(&self, x: u8, y: u8) -> u8
+        requires left { x < 2 ^ bits_of self.now }
+        requires right { y < 2 ^ bits_of self.now }
+        ensures product { result ≡ gf_mul (bits_of self.now) (modulus_of self.now) x y }
+        ensures element { result < 2 ^ bits_of self.now };
+
+    fn inv(&self, x: u8) -> u8
+        requires element { x < 2 ^ bits_of self.now }
+        requires nonzero { 0 < x }
+        ensures inverse { gf_mul (bits_of self.now) (modulus_of self.now) x result ≡ 1 }
+        ensures result_element { result < 2 ^ bits_of self.now };
+
+    ghost is_modulus: { (f : Self) → IsModulus (bits_of f) (modulus_of f) };
+}
+
+/// The field of the polynomials modulo an irreducible one. It multiplies bit by bit.
+#[derive(Clone, Copy)]
+pub struct PolyField {
+    bits: u32,
+    modulus: u32,
+    ghost is_modulus: { IsModulus bits modulus },
+}
+
+impl PolyField {
+    /// None exactly where `bits` is not 2 to 8, or `modulus` is not irreducible of that degree.
+    pub fn new(bits: u32, modulus: u32) -> Option<PolyField>
+        ensures { MatchOption result (IsModulus bits modulus → ⊥) (λ f. (f.bits ≡ bits) × (f.modulus ≡ modulus)) }
+    {
+        if 2 <= bits && bits <= 8 && is_irreducible(bits, modulus) {
+            Some(PolyField { bits, modulus })
+        } else {
+            None
+        }
+    }
+}
+
+impl Field for PolyField {
+    ghost bits_of = { λ f. f.bits };
+
+    ghost modulus_of = { λ f. f.modulus };
+
+    ghost is_modulus = { λ f. f.is_modulus };
+
+    fn bits(&self) -> u32 {
+        self.bits
+    }
+
+    fn modulus(&self) -> u32 {
+        self.modulus
+    }
+
+    fn add(&self, x: u8, y: u8) -> u8 {
+        x ^ y
+    }
+
+    fn mul(&self, x: u8, y: u8) -> u8 {
+        product(self.bits, self.modulus, u32::from(x), u32::from(y)) as u8
+    }
+
+    fn inv(&self, x: u8) -> u8 {
+        let mut y = 1;
+        while self.mul(x, y) != 1 {
+            y += 1;
+        }
+        y
+    }
+}
+
+#[cfg(test)]
+mod tests {
+    use super::*;
+
+    #[test]
+    fn answers_none_where_the_modulus_is_no_field(rt: HostRuntime) {
+        assert!(rt; PolyField::new(8, 257).is_none());
+        assert!(rt; PolyField::new(1, 3).is_none());
+        assert!(rt; PolyField::new(9, 529).is_none());
+        assert!(rt; PolyField::new(2, 11).is_none());
+        assert!(rt; PolyField::new(2, 5).is_none());
+    }
+
+    #[test]
+    fn multiplies_in_the_field_of_aes(rt: HostRuntime) {
+        let f = PolyField::new(8, 283).expect(&rt, "irreducible");
+        assert_eq!(rt; f.mul(0x57, 0x83), 0xc1);
+        assert_eq!(rt; f.inv(0x53), 0xca);
+        assert_eq!(rt; f.add(0x57, 0x83), 0xd4);
+        assert_eq!(rt; f.bits(), 8);
+        assert_eq!(rt; f.modulus(), 283);
+    }
+
+    #[test]
+    fn multiplies_in_the_field_of_sixteen(rt: HostRuntime) {
+        let f = PolyField::new(4, 19).expect(&rt, "irreducible");
+        assert_eq!(rt; f.mul(2, 9), 1);
+    }
+}

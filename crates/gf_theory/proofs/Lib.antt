@@ -1,0 +1,12 @@
+pub mod Xor
+pub mod Clmul
+pub mod Degree
+pub mod Remainder
+pub mod Product
+pub mod Inverse
+pub mod Steps
+pub mod Factors
+pub mod Laws
+mod Examples
+pub mod Powers
+pub mod Fields

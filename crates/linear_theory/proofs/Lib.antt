@@ -1,0 +1,13 @@
+pub mod Spans
+pub mod Ranks
+pub mod Exchange
+pub mod Bases
+pub mod Corners
+pub mod Duals
+pub mod Flips
+pub mod Steps
+pub mod Wrongs
+pub mod Reduced
+pub mod Solving
+pub mod Completion
+pub mod Ordered
