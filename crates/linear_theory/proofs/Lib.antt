@@ -11,3 +11,4 @@ pub mod Reduced
 pub mod Solving
 pub mod Completion
 pub mod Ordered
+pub mod Tables

@@ -1,6 +1,6 @@
 -- Linear algebra over a field `size`, `mul` (`IsField` of `Field`). A vector is a function from places, of which the
 -- places below a length n count. A matrix is a function from row numbers to vectors, of which the rows below r count.
-use Rattle.std.specs.Prelude.{◌≡◌, ℕ, zero, suc, ◌+◌, ◌<◌, ◌≤◌, bit_xor, Bool, true, false, cond, eqb, ◌&&◌, ◌||◌, not}
+use Rattle.std.specs.Prelude.{◌≡◌, ℕ, zero, suc, ◌+◌, ◌<◌, ◌≤◌, bit_xor, Bool, cond, eqb, ◌&&◌, not}
 use Rattle.field_theory.specs.Sums.{xor_sum, any_below, all_below, put, unit}
 
 abbrev pub dot : (ℕ → ℕ → ℕ) → ℕ → (ℕ → ℕ) → (ℕ → ℕ) → ℕ
