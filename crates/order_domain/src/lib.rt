@@ -7,6 +7,7 @@
 
 ghost use Rattle.std.specs.Prelude.{ℕ, ◌≡◌, ◌<◌, ◌^◌, IsTrue, IsSome};
 ghost use Rattle.order_domain.specs.Domain.{Domain, IsOrderDomain};
+ghost use Rattle.order_domain.specs.Values.{ValuesLaw};
 
 use gf_field::Field;
 
@@ -70,6 +71,12 @@ pub trait OrderDomain {
 
     ghost lawful: { (d : Self) → IsOrderDomain (domain d) };
 }
+
+/// At distinct points of a domain the values of its functions are those of ordered functions, and as many of them as there
+/// are points are no combination of those before them. The contract is the theorem.
+pub fn points_give_a_basis()
+    ensures { ValuesLaw }
+{}
 
 #[cfg(test)]
 mod tests;
