@@ -1,0 +1,9 @@
+//! Linear algebra over a field: matrices, products of lists, ranks, the reduced row echelon form, dual lists and solutions.
+//! `Matrix` is the type; the functions take a field that meets `Field`.
+#![tactic(auto)]
+
+mod lists;
+mod matrix;
+
+pub use lists::{add_scaled, dot};
+pub use matrix::Matrix;

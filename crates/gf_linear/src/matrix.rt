@@ -1,0 +1,84 @@
+ghost use Rattle.std.specs.Prelude.{◌≡◌, ℕ, ◌*◌, ◌<◌, ◌≤◌, ◌^◌, length, IfOk};
+ghost use Rattle.gf_linear.specs.Matrix.{row as row_of, IsMatrix, zero_matrix, with_row, with_entry};
+
+use std::alloc::{AllocError, Global};
+use std::marker::Model;
+
+/// A matrix of bytes, stored row by row.
+#[derive(Drop)]
+pub struct Matrix {
+    rows: u32,
+    cols: u32,
+    entries: Vec<u8>,
+}
+
+impl Model for Matrix {
+    ghost use Rattle.std.specs.Prelude.{◌≡◌, ℕ, ◌*◌, ◌≤◌, length};
+    ghost use Rattle.gf_linear.specs.Matrix.{Matrix, matrix_of};
+
+    ghost Value = { Matrix };
+
+    ghost view = { λ a. matrix_of a.rows a.cols a.entries.items };
+
+    ghost invariant = { λ a. (a.rows ≤ 1024) × (a.cols ≤ 2048) × (length a.entries.items ≡ a.rows * a.cols) };
+}
+
+impl Matrix {
+    /// The matrix of this size whose entries are 0.
+    pub fn new(alloc: Global, rows: u32, cols: u32) -> Result<Matrix, AllocError>
+        requires few_rows { rows ≤ 1024 }
+        requires few_cols { cols ≤ 2048 }
+        ensures { IfOk result (λ m. m ≡ zero_matrix rows cols) }
+    {
+        Ok(Matrix {
+            rows,
+            cols,
+            entries: vec![in alloc; 0; rows as usize * cols as usize]?,
+        })
+    }
+
+    /// The number of rows.
+    pub fn rows(&self) -> u32
+        ensures rows { result ≡ length self.now.rows }
+        ensures sound { IsMatrix self.now }
+    {
+        self.rows
+    }
+
+    /// The number of columns.
+    pub fn cols(&self) -> u32
+        ensures cols { result ≡ self.now.cols }
+        ensures sound { IsMatrix self.now }
+    {
+        self.cols
+    }
+
+    /// Row `i`.
+    pub fn row(&self, i: u32) -> &[u8]
+        requires { i < length self.now.rows }
+        ensures row { result.now ≡ row_of self.now i }
+        ensures width { length result.now ≡ self.now.cols }
+    {
+        let start = i as usize * self.cols as usize;
+        &self.entries[start..start + self.cols as usize]
+    }
+
+    /// The entry at row `i`, column `j` becomes `v`.
+    pub fn set(&mut self, i: u32, j: u32, v: u8)
+        requires row { i < length self.old.rows }
+        requires column { j < self.old.cols }
+        ensures { self.new ≡ with_entry self.old i j v }
+    {
+        self.entries[i as usize * self.cols as usize + j as usize] = v;
+    }
+
+    /// Row `i` becomes this list.
+    pub fn set_row(&mut self, i: u32, entries: &[u8])
+        requires row { i < length self.old.rows }
+        requires width { length entries.now ≡ self.old.cols }
+        ensures { self.new ≡ with_row self.old i entries.now }
+    {
+        let start = i as usize * self.cols as usize;
+        self.entries[start..start + self.cols as usize].copy_from_slice(entries);
+    }
+}
