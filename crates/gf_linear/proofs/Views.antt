@@ -2,21 +2,21 @@
 use Rattle.std.proofs.Common.{◌≡◌, ℕ, ◌+◌, ◌*◌, ◌-◌, ◌<◌, ◌≤◌, List, [], length, take, drop, get_or, replicate, sym, ◌∙◌, ap, subst, refl, arith}
 use Rattle.std.proofs.Math.ListN.{set}
 use borrow.Rule.Slice.PartMut.{put_mid}
-use Rattle.gf_linear.specs.Matrix.{Matrix, IsMatrix, row, zero_matrix, with_row, with_entry, matrix_of, rows_of}
-use Rattle.gf_linear.proofs.Rows.{length-rows_of, rows_of-at, rows_of-set, rows_of-replicate, rows_of-put_mid, row_width, place_below, row_end}
+use Rattle.linear_theory.proofs.Tables.{length-rows_of, row-rows_of, length-row, rows_of-set, rows_of-replicate, rows_of-put_mid, place_below, row_end}
+use Rattle.gf_linear.specs.Matrix.{Matrix, IsMatrix, row, zero_matrix, with_row, with_entry, matrix_of}
 
 pub view-new : (rows cols : ℕ) (m : List ℕ) → m ≡ replicate (rows * cols) 0 → matrix_of rows cols m ≡ zero_matrix rows cols
-view-new rows cols m e = ap (λ w. matrix_of rows cols w) e ∙ ap (λ w. record { cols = cols; rows = w }) (rows_of-replicate cols rows 0)
+view-new rows cols m e = ap (λ w. matrix_of rows cols w) e ∙ ap (λ w. record { cols = cols; rows = w }) (rows_of-replicate rows cols 0)
 
 module _ (rows cols : ℕ) (m : List ℕ) (v : Matrix) (view : matrix_of rows cols m ≡ v) where
   pub view-rows : rows ≡ length v.rows
-  view-rows = sym (length-rows_of cols rows m) ∙ ap (λ w. length w.rows) view
+  view-rows = sym (length-rows_of rows cols m) ∙ ap (λ w. length w.rows) view
 
   pub view-cols : cols ≡ v.cols
   view-cols = ap (λ w. w.cols) view
 
   pub view-row : (i : ℕ) → i < length v.rows → take cols (drop (i * cols) m) ≡ row v i
-  view-row i l = sym (rows_of-at cols rows m i (subst (λ (n : ℕ). i < n) (sym view-rows) l)) ∙ ap (λ w. row w i) view
+  view-row i l = sym (row-rows_of rows cols m i [] (subst (λ (n : ℕ). i < n) (sym view-rows) l)) ∙ ap (λ w. row w i) view
 
   pub view-place : (i j : ℕ) → i < length v.rows → j < v.cols → length m ≡ rows * cols → i * cols + j < length m
   view-place i j li lj e = place_below rows cols i j (length m) (subst (λ (n : ℕ). i < n) (sym view-rows) li) (subst (λ (n : ℕ). j < n) (sym view-cols) lj) e
@@ -28,18 +28,18 @@ module _ (rows cols : ℕ) (m : List ℕ) (v : Matrix) (view : matrix_of rows co
   view-sound few_rows few_cols e = record {
     few_rows = subst (λ (n : ℕ). n ≤ 1024) view-rows few_rows;
     few_cols = subst (λ (n : ℕ). n ≤ 2048) view-cols few_cols;
-    width = λ i l. ap length (sym (view-row i l)) ∙ row_width cols rows m i (subst (λ (n : ℕ). i < n) (sym view-rows) l) e ∙ view-cols;
+    width = λ i l. ap (λ w. length (row w i)) (sym view) ∙ length-row rows cols m i [] (omega arith) (subst (λ (n : ℕ). i < n) (sym view-rows) l) ∙ view-cols;
   }
 
   pub view-set : (i j x : ℕ) → i < length v.rows → j < v.cols → matrix_of rows cols (set m (i * cols + j) x) ≡ with_entry v i j x
   view-set i j x li lj =
       ap (λ w. record { cols = cols; rows = w })
-      (rows_of-set cols rows m i j x (subst (λ (n : ℕ). i < n) (sym view-rows) li) (subst (λ (n : ℕ). j < n) (sym view-cols) lj))
+      (rows_of-set rows cols m i j x (subst (λ (n : ℕ). i < n) (sym view-rows) li) (subst (λ (n : ℕ). j < n) (sym view-cols) lj))
       ∙ ap (λ w. with_row (matrix_of rows cols m) i (set w j x)) (view-row i li)
       ∙ ap (λ w. with_row w i (set (row v i) j x)) view
 
   pub view-set_row : (i k : ℕ) (ys : List ℕ) → i < length v.rows → length m ≡ rows * cols → length ys ≡ v.cols → k ≡ cols → matrix_of rows cols (put_mid (i * cols) k m ys) ≡ with_row v i ys
   view-set_row i k ys li lm ly e =
       ap (λ (n : ℕ). matrix_of rows cols (put_mid (i * cols) n m ys)) e
-      ∙ ap (λ w. record { cols = cols; rows = w }) (rows_of-put_mid cols rows m i ys (subst (λ (n : ℕ). i < n) (sym view-rows) li) lm (ly ∙ sym view-cols))
+      ∙ ap (λ w. record { cols = cols; rows = w }) (rows_of-put_mid rows cols m i ys (subst (λ (n : ℕ). i < n) (sym view-rows) li) lm (ly ∙ sym view-cols))
       ∙ ap (λ w. with_row w i ys) view

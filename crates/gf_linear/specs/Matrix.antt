@@ -6,9 +6,9 @@
 -- zero_matrix   the matrix of this size whose entries are 0
 -- with_row      the matrix with another row i
 -- with_entry    the matrix with another entry at row i, column j
--- rows_of       a list cut into rows of `cols` entries
 -- matrix_of     the matrix whose entries are stored row by row in a list
-use Rattle.std.specs.Prelude.{◌≡◌, ℕ, zero, suc, ◌<◌, ◌≤◌, ◌^◌, List, [], ◌∷◌, length, take, drop, replicate, slice_index, slice_index_or, slice_set}
+use Rattle.std.specs.Prelude.{◌≡◌, ℕ, ◌<◌, ◌≤◌, ◌^◌, List, [], length, replicate, slice_index, slice_index_or, slice_set}
+use Rattle.linear_theory.specs.Tables.{rows_of}
 
 pub record Matrix : Type 0 where
   pub cols : ℕ
@@ -37,9 +37,5 @@ with_row m i r = record m { rows = slice_set m.rows i r }
 abbrev pub with_entry : Matrix → ℕ → ℕ → ℕ → Matrix
 with_entry m i j v = with_row m i (slice_set (row m i) j v)
 
-unfoldable pub rows_of : ℕ → ℕ → List ℕ → List (List ℕ)
-rows_of cols zero m = []
-rows_of cols (suc r) m = take cols m ∷ rows_of cols r (drop cols m)
-
 abbrev pub matrix_of : ℕ → ℕ → List ℕ → Matrix
-matrix_of rows cols m = record { cols = cols; rows = rows_of cols rows m }
+matrix_of rows cols m = record { cols = cols; rows = rows_of rows cols m }

@@ -1,7 +1,12 @@
 -- The rows of a flat list: how many there are, how long they are, where their entries stand, and what a write leaves
-use Rattle.std.proofs.Common.{◌≡◌, ℕ, zero, suc, ◌+◌, ◌*◌, ◌<◌, ◌≤◌, List, [], length, take, drop, get_or, ◌∙◌, ap, refl, arith}
-use Rattle.std.proofs.lemmas.List.{drop-drop, get_or-take, get_or-drop, length-take-le, length-drop}
-use Rattle.std.proofs.lemmas.Nat.{row_fits}
+use Rattle.std.proofs.Common.{◌≡◌, ℕ, zero, suc, ◌+◌, ◌*◌, ◌-◌, ◌<◌, ◌≤◌, List, [], ◌∷◌, ◌++◌, length, take, drop, get_or, replicate, sym, ◌∙◌, ap, refl, arith}
+use Rattle.std.proofs.Math.Nat.{suc-mul, mul-le-mul_right}
+use Rattle.std.proofs.Math.ListN.{set}
+use Rattle.std.proofs.Math.Seq.{take-set-lt}
+use Rattle.std.proofs.lemmas.List.{drop-drop, get_or-take, get_or-drop, length-append, length-take-le, length-drop, take-set-le, drop-set-lt, drop-set-add, take_at, drop_at, take-replicate, drop-replicate, drop-append-le, drop-take}
+use Rattle.std.proofs.lemmas.Nat.{row_fits, mul-add-lt}
+use Rattle.std.proofs.lemmas.Slice.{take-put_mid_below}
+use borrow.Rule.Slice.PartMut.{put_mid}
 use Rattle.linear_theory.specs.Tables.{rows_of}
 
 pub length-rows_of : (rows cols : ℕ) (xs : List ℕ) → length (rows_of rows cols xs) ≡ rows
@@ -30,3 +35,70 @@ length-row rows cols xs i d long l =
     let fits : i * cols + cols ≤ rows * cols = row_fits i cols rows cols l (omega arith) in
     ap length (row-rows_of rows cols xs i d l)
     ∙ length-take-le cols (drop (i * cols) xs) (omega (arith, length-drop (i * cols) xs))
+
+pub place_below : (rows cols i j n : ℕ) → i < rows → j < cols → n ≡ rows * cols → i * cols + j < n
+place_below rows cols i j n li lj e = grind (arith, mul-add-lt i cols j rows li lj)
+
+pub row_end : (rows cols i n : ℕ) → i < rows → n ≡ rows * cols → i * cols + cols ≤ n
+row_end rows cols i n l e = let k : suc i * cols ≤ rows * cols = mul-le-mul_right cols l in omega (arith, suc-mul i cols)
+
+-- ---- after a write
+-- the first row and the rest
+drop_row : (cols i : ℕ) (m : List ℕ) → drop (suc i * cols) m ≡ drop (i * cols) (drop cols m)
+drop_row cols i m = sym (drop-drop (i * cols) cols m ∙ ap (λ n. drop n m) (let e : cols + i * cols ≡ suc i * cols = omega (arith, suc-mul i cols) in e))
+
+drop_none : (cols : ℕ) (m : List ℕ) → drop (0 * cols) m ≡ m
+drop_none cols m = ap (λ n. drop n m) (let e : 0 * cols ≡ 0 = omega arith in e)
+
+-- one entry is written
+pub rows_of-set : (r cols : ℕ) (m : List ℕ) (i j v : ℕ) → i < r → j < cols → rows_of r cols (set m (i * cols + j) v) ≡ set (rows_of r cols m) i (set (take cols (drop (i * cols) m)) j v)
+unfolding rows_of
+rows_of-set zero cols m i j v li lj = absurd (omega arith)
+rows_of-set (suc r) cols m zero j v li lj =
+    let e : 0 * cols + j ≡ j = omega arith in
+    ap (λ p. rows_of (suc r) cols (set m p v)) e ∙ ap (λ w. w ∷ rows_of r cols (drop cols (set m j v))) (take-set-lt cols m j v lj ∙ ap (λ w. set (take cols w) j v) (sym (drop_none cols m)))
+    ∙ ap (λ w. set (take cols (drop (0 * cols) m)) j v ∷ rows_of r cols w) (drop-set-lt cols m j v lj)
+rows_of-set (suc r) cols m (suc i) j v li lj =
+    let e : suc i * cols + j ≡ cols + (i * cols + j) = omega (arith, suc-mul i cols) in
+    ap (λ p. rows_of (suc r) cols (set m p v)) e ∙ ap (λ w. w ∷ rows_of r cols (drop cols (set m (cols + (i * cols + j)) v))) (take-set-le cols m (cols + (i * cols + j)) v (omega arith))
+    ∙ ap (λ w. take cols m ∷ rows_of r cols w) (drop-set-add cols m (i * cols + j) v)
+    ∙ ap (λ w. take cols m ∷ w) (rows_of-set r cols (drop cols m) i j v (omega arith) lj)
+    ∙ ap (λ w. take cols m ∷ set (rows_of r cols (drop cols m)) i (set (take cols w) j v)) (sym (drop_row cols i m))
+
+pub rows_of-replicate : (r cols x : ℕ) → rows_of r cols (replicate (r * cols) x) ≡ replicate r (replicate cols x)
+unfolding rows_of
+rows_of-replicate zero cols x = refl
+rows_of-replicate (suc r) cols x =
+    ap (λ n. rows_of (suc r) cols (replicate n x)) (suc-mul r cols) ∙
+    ap (λ w. w ∷ rows_of r cols (drop cols (replicate (r * cols + cols) x))) (take-replicate cols (r * cols + cols) x (omega arith))
+    ∙ ap (λ w. replicate cols x ∷ rows_of r cols w) (drop-replicate cols (r * cols + cols) x ∙ ap (λ n. replicate n x) (let e : r * cols + cols - cols ≡ r * cols = omega arith in e))
+    ∙ ap (λ w. replicate cols x ∷ w) (rows_of-replicate r cols x)
+
+-- one row is written
+drop_below-put_mid : (n b k : ℕ) (xs ys : List ℕ) → n + b ≤ length xs → drop n (put_mid (n + b) k xs ys) ≡ put_mid b k (drop n xs) ys
+drop_below-put_mid n b k xs ys l =
+    drop-append-le n (take (n + b) xs) (ys ++ drop k (drop (n + b) xs)) (rw (length-take-le (n + b) xs l) (omega arith))
+    ∙ ap (λ w. w ++ (ys ++ drop k (drop (n + b) xs))) (drop-take n b xs)
+    ∙ ap (λ w. take b (drop n xs) ++ (ys ++ drop k w)) (sym (drop-drop b n xs))
+
+pub rows_of-put_mid : (r cols : ℕ) (m : List ℕ) (i : ℕ) (ys : List ℕ) → i < r → length m ≡ r * cols → length ys ≡ cols → rows_of r cols (put_mid (i * cols) cols m ys) ≡ set (rows_of r cols m) i ys
+unfolding rows_of
+rows_of-put_mid zero cols m i ys li lm ly = absurd (omega arith)
+rows_of-put_mid (suc r) cols m zero ys li lm ly =
+    let e : 0 * cols ≡ 0 = omega arith in
+    ap (λ p. rows_of (suc r) cols (put_mid p cols m ys)) e
+    ∙ ap (λ w. w ∷ rows_of r cols (drop cols (ys ++ drop cols m))) (take_at ys (drop cols m) cols ly)
+    ∙ ap (λ w. ys ∷ rows_of r cols w) (drop_at ys (drop cols m) cols ly)
+rows_of-put_mid (suc r) cols m (suc i) ys li lm ly =
+    let e : suc i * cols ≡ cols + i * cols = omega (arith, suc-mul i cols) in
+    let below : i ≤ r = omega arith in
+    let k : i * cols ≤ r * cols = mul-le-mul_right cols below in
+    let room : cols + i * cols ≤ length m = omega (arith, suc-mul r cols) in
+    ap (λ p. rows_of (suc r) cols (put_mid p cols m ys)) e
+    ∙ ap (λ w. w ∷ rows_of r cols (drop cols (put_mid (cols + i * cols) cols m ys))) (take-put_mid_below (cols + i * cols) cols m ys cols (omega arith) room)
+    ∙ ap (λ w. take cols m ∷ rows_of r cols w) (drop_below-put_mid cols (i * cols) cols m ys room)
+    ∙ ap (λ w. take cols m ∷ w) (rows_of-put_mid r cols (drop cols m) i ys (omega arith) (rw length-drop (omega (arith, suc-mul r cols))) ly)
+
+pub length-put_mid : (a k : ℕ) (xs ys : List ℕ) → a + k ≤ length xs → length ys ≡ k → length (put_mid a k xs ys) ≡ length xs
+length-put_mid a k xs ys l e =
+    rw (length-append, length-append, length-drop, length-drop, length-take-le a xs (let h : a ≤ length xs = omega arith in h)) (omega arith)

@@ -2,7 +2,7 @@ use Rattle.std.proofs.Common.{arith, ap, ◌∙◌, ◌≡◌, ◌+◌, ◌*◌,
 use Rattle.std.proofs.lemmas.List.{with_items_is}
 use borrow.Rule.Slice.PartMut.{put_mid}
 use Rattle.gf_linear.specs.Matrix.{matrix_of}
-use Rattle.gf_linear.proofs.Rows.{length-put_mid}
+use Rattle.linear_theory.proofs.Tables.{length-put_mid}
 use Rattle.gf_linear.proofs.Views.{view-cols, view-row_end, view-set_row}
 use Rattle.gf_linear.proofs.matrix.Matrix.set_row.Goals as goal
 
