@@ -2,6 +2,7 @@
 -- products. It is plain data; `IsSound` says when the data fits together.
 use Rattle.std.specs.Prelude.{◌≡◌, ◌≢◌, ℕ, ◌^◌, ◌<◌, ◌≤◌, bit_xor, List, [], length, slice_index, slice_index_or, All}
 use Rattle.field_theory.specs.Field.{IsField}
+use Rattle.gf_theory.specs.Field.{gf_mul, IsModulus}
 use Rattle.linear_theory.specs.Linear.{combine, IsDual}
 use Rattle.counting_theory.specs.Votes.{IsSum, pairs}
 
@@ -107,3 +108,12 @@ pub record IsSound (mul : ℕ → ℕ → ℕ) (b : Basis) : Type 0 where
   -- where their sum is an index of no member, the product list is a combination of the vectors whose ranks are below it
   pub other_products : (i j : ℕ) → i < b.n → j < b.n → sum_at b i j < b.count → ((k : ℕ) → k < b.n → sum_at b i j ≢ rank_at b k) → IsSpannedBelow mul b (sum_at b i j) (product mul b i j)
   pub pairs_counted : (k : ℕ) → k < b.n → HasPairs b k
+
+-- the product of the field that the bits and the modulus of b name
+abbrev pub times : Basis → ℕ → ℕ → ℕ
+times b = gf_mul b.bits b.modulus
+
+-- the bits and the modulus of b are those of a field, over which b is sound
+pub record IsSoundBasis (b : Basis) : Type 0 where
+  pub modulus : IsModulus b.bits b.modulus
+  pub sound : IsSound (times b) b

@@ -1,0 +1,2 @@
+pub mod FlatReads
+pub mod Marks
