@@ -1,3 +1,5 @@
 pub mod Points
 pub mod Domain
 pub mod Values
+pub mod Line
+pub mod LineLaws

@@ -5,7 +5,7 @@ ghost use Rattle.gf_theory.specs.Field.{gf_mul};
 ghost use Rattle.order_domain.specs.Domain.{combined};
 
 use super::{OrderDomain, Point};
-use gf_field::Field;
+use gf_field::{Field, PolyField};
 
 // by `neutral`
 fn sum_with_first<D: OrderDomain>(d: &D, i: u32) -> Option<u32>
@@ -16,7 +16,27 @@ fn sum_with_first<D: OrderDomain>(d: &D, i: u32) -> Option<u32>
     d.sum(0, i)
 }
 
-// by `product_law` and `sums_rise`
+// by `labels_rise`
+fn later_label_is_greater<D: OrderDomain>(d: &D, i: u32, j: u32) -> bool
+    requires order { i < j }
+    requires index { j < (D.domain d.now).count }
+    ensures { IsTrue result }
+{
+    d.bits();
+    d.label(i) < d.label(j)
+}
+
+// by `sums_rise`
+fn sum_is_symmetric<D: OrderDomain>(d: &D, i: u32, j: u32) -> bool
+    requires left { i < (D.domain d.now).count }
+    requires right { j < (D.domain d.now).count }
+    ensures { IsTrue result }
+{
+    d.bits();
+    d.sum(i, j) == d.sum(j, i)
+}
+
+// by `product_law`
 fn leading_part<F: Field, D: OrderDomain>(f: &F, d: &D, i: u32, j: u32, p: &Point) -> Option<u8>
     requires bits { F.bits_of f.now ≡ (D.domain d.now).bits }
     requires left { i < (D.domain d.now).count }
@@ -32,4 +52,68 @@ fn leading_part<F: Field, D: OrderDomain>(f: &F, d: &D, i: u32, j: u32, p: &Poin
     let lead = d.lead(f, i, j);
     let value = d.eval(f, s, p);
     Some(f.mul(lead, value))
+}
+
+// The functions 1, x, x² and x³ on the points of a line over GF(4): a domain with no curve in it.
+#[derive(Drop)]
+struct Line {}
+
+impl OrderDomain for Line {
+    ghost use Rattle.order_domain.specs.Line.{line};
+    ghost use Rattle.order_domain.specs.LineLaws.{line-lawful};
+
+    ghost domain = { λ _. line };
+
+    ghost lawful = { λ _. line-lawful };
+
+    fn bits(&self) -> u32 {
+        2
+    }
+
+    fn count(&self) -> u32 {
+        4
+    }
+
+    fn label(&self, i: u32) -> u32 {
+        i
+    }
+
+    fn eval<F: Field>(&self, f: &F, i: u32, p: &Point) -> u8 {
+        f.bits();
+        let mut value = 1;
+        for _ in 0..i {
+            value = f.mul(p.x, value);
+        }
+        value
+    }
+
+    fn sum(&self, i: u32, j: u32) -> Option<u32> {
+        if i + j < 4 { Some(i + j) } else { None }
+    }
+
+    fn lead<F: Field>(&self, f: &F, _i: u32, _j: u32) -> u8 {
+        f.bits();
+        1
+    }
+
+    fn on<F: Field>(&self, _f: &F, p: &Point) -> bool {
+        p.x < 4 && p.y == 0 && p.z == 0
+    }
+}
+
+#[test]
+fn computes_on_a_line(rt: HostRuntime) {
+    let f = PolyField::new(2, 7).expect(&rt, "irreducible");
+    let line = Line {};
+    let two = Point { x: 2, y: 0, z: 0 };
+    assert!(rt; line.on(&f, &two));
+    assert!(rt; !line.on(&f, &Point { x: 2, y: 1, z: 0 }));
+    assert_eq!(rt; line.count(), 4);
+    assert_eq!(rt; line.label(3), 3);
+    assert!(rt; later_label_is_greater(&line, 0, 2));
+    assert!(rt; sum_is_symmetric(&line, 1, 3));
+    assert_eq!(rt; line.eval(&f, 2, &two), 3);
+    assert_eq!(rt; sum_with_first(&line, 3), Some(3));
+    assert_eq!(rt; leading_part(&f, &line, 1, 2, &two), Some(1));
+    assert_eq!(rt; leading_part(&f, &line, 2, 2, &two), None);
 }
