@@ -1,5 +1,5 @@
 -- The theorems, at lists
-use Rattle.std.proofs.Common.{◌≡◌, ◌≢◌, ℕ, zero, suc, ◌+◌, ◌*◌, ◌%◌, ◌^◌, ◌<◌, ◌≤◌, Bool, true, false, eqb, List, length, get_or, sym, ◌∙◌, ap, subst, inl, inr, arith, bit_xor}
+use Rattle.std.proofs.Common.{◌-◌, ◌/◌, ◌≡◌, ◌≢◌, ℕ, zero, suc, ◌+◌, ◌*◌, ◌%◌, ◌^◌, ◌<◌, ◌≤◌, Bool, true, false, eqb, List, length, get_or, sym, ◌∙◌, ap, subst, inl, inr, arith, bit_xor}
 use Rattle.std.proofs.lemmas.Bool.{false_from_ne_true, true_from_ne_false, cases_Bool, both_ways, cond-true, cond-false, eq-eqb, eqb-true}
 use Rattle.std.proofs.lemmas.Grind.{same_number_lists}
 use Rattle.std.proofs.Math.Nat.{mod-eq_of_lt}
@@ -21,7 +21,7 @@ use Rattle.order_theory.specs.Errors.{weight, syndrome, entry, part_rank}
 use Rattle.order_theory.specs.Codes.{low_bits, marked, IsCodeword, IsBound, list_sum, distance}
 use Rattle.order_theory.specs.Voting.{SameBelow, vote_at, one_below, entry_by}
 use Rattle.order_theory.specs.Course.{IsMoved}
-use Rattle.order_theory.specs.Laws.{RankLaw, GreatestRankLaw, MajorityLaw, DistanceLaw, BoundLaw, NearLaw, ErrorLaw, KnownLaw, VoteLaw, VoteOnceLaw, VoteMadeLaw, ElectionLaw, RecoveryLaw, SyndromeLaw, StepLaw, MarkedLaw, VotedLaw, FoundLaw, NearErrorLaw}
+use Rattle.order_theory.specs.Laws.{RankLaw, GreatestRankLaw, MajorityLaw, DistanceLaw, BoundLaw, RadiusLaw, NearLaw, ErrorLaw, KnownLaw, VoteLaw, VoteOnceLaw, VoteMadeLaw, ElectionLaw, RecoveryLaw, SyndromeLaw, StepLaw, MarkedLaw, VotedLaw, FoundLaw, NearErrorLaw}
 use Rattle.order_theory.proofs.Fields.{first_or_none, dot_xor, dot_scale}
 use Rattle.order_theory.proofs.Shape.{word_below, dual_below}
 use Rattle.order_theory.proofs.Known.{syn, entry_before, entry_at_member}
@@ -78,8 +78,18 @@ bound_law mul b marks d x h bound c some =
 is_marked : (b : Basis) (marks : List Bool) (t d : ℕ) → IsBound b marks d → 2 * t < d → (k : ℕ) → k < b.n → pairs_at b k ≤ 2 * t → marked marks k ≡ true
 is_marked b marks t d bound l k lk few = true_from_ne_false (marked marks k) (λ f. absurd (omega (arith, bound.at_most k lk f)))
 
+pub radius_law : RadiusLaw
+radius_law d t some = (
+  λ r. let below : 2 * t < d = r.below in let high : (d - 1) / 2 ≤ t = r.greatest ((d - 1) / 2) (omega arith) in omega arith,
+  λ e. record { below = omega arith; greatest = λ u l. omega arith },
+)
+
 pub near_law : NearLaw
-near_law mul b marks t d y x x' h bound l long c c' near near' =
+near_law mul b marks t d y x x' h bound l long first second =
+    let c : IsCodeword mul b marks x = first.is_codeword in
+    let c' : IsCodeword mul b marks x' = second.is_codeword in
+    let near : distance y x ≤ t = first.close in
+    let near' : distance y x' ≤ t = second.close in
     let turn : (z : List ℕ) → length z ≡ b.n → weight_below b.n (λ p. bit_xor (at z p) (at y p)) ≡ distance y z =
     λ z e. weight_same b.n (λ p. bit_xor (at z p) (at y p)) (λ p. bit_xor (at y p) (at z p)) (λ p u. xor_comm (at z p) (at y p)) ∙ distance_is b.n y z long e in
     let one : weight_below b.n (λ p. bit_xor (at x p) (at y p)) ≤ t = omega (arith, turn x c.is_word.n_long) in
@@ -240,7 +250,9 @@ low_at : (bits : ℕ) (y : List ℕ) (p : ℕ) → p < length y → get_or (low_
 low_at bits y p l = get_or-map (λ (a : ℕ). a % 2 ^ bits) y p 0 0 l
 
 pub near_error_law : NearErrorLaw
-near_error_law mul b marks t y x h long c near =
+near_error_law mul b marks t y x h long there =
+    let c : IsCodeword mul b marks x = there.is_codeword in
+    let near : distance y x ≤ t = there.close in
     let low : List ℕ = low_bits b.bits y in
     let n_low : length (low_bits b.bits y) ≡ b.n = length-map y (λ (a : ℕ). a % 2 ^ b.bits) ∙ long in
     let same : length (low_bits b.bits y) ≡ length x = n_low ∙ sym c.is_word.n_long in

@@ -1,11 +1,28 @@
--- A basis: n vectors of n symbols, the members, with their duals and with what the order of the members says of their
--- products. It is plain data; `IsSound` says when the data fits together.
+-- Basis            n vectors of n symbols, the members, with their dual lists and what their order says of their products
+-- rank_at          the index of member k among the functions of the domain
+-- label            the label of member k
+-- vector           the values of member k at the points
+-- dual             the list with product 1 with vector k, and 0 with each other vector
+-- pairs_at         how many pairs have member k as their sum
+-- sum_at           the index of the sum of members i and j, or `count` or more where they have none
+-- lead             the factor of that sum in the product of vectors i and j
+-- IsWord           a list of n symbols
+-- IsSpannedBelow   a combination of the vectors of the members whose ranks are below s
+-- product          the product of vectors i and j, position by position
+-- HasShape         the lists have their lengths and symbols, ranks and labels rise, and the dual lists fit
+-- HasSums          the sum is symmetric, and a smaller pair has a smaller sum
+-- HasLead          what the product of two members is whose sum is member k
+-- HasPairs         the number of pairs of member k is as it says, and is at least 1
+-- IsSound          a basis whose data fits together, over the field with the product mul
+-- times            the product of the field that a basis names by its bits and modulus
+-- IsSoundBasis     a basis that is sound over the field that it names
 use Rattle.std.specs.Prelude.{◌≡◌, ◌≢◌, ℕ, ◌^◌, ◌<◌, ◌≤◌, bit_xor, List, [], length, slice_index, slice_index_or, All}
 use Rattle.field_theory.specs.Field.{IsField}
 use Rattle.gf_theory.specs.Field.{gf_mul, IsModulus}
 use Rattle.linear_theory.specs.Linear.{combine, IsDual}
 use Rattle.counting_theory.specs.Votes.{IsSum, pairs}
 
+-- plain data: `IsSound` says when it fits together
 pub record Basis : Type 0 where
   -- the bits of a symbol, and the modulus of the field
   pub bits : ℕ
@@ -31,7 +48,7 @@ rank_at b k = slice_index b.ranks k
 abbrev pub label : Basis → ℕ → ℕ
 label b k = slice_index b.labels k
 
--- symbol p of the vector of member k
+-- symbol p of it
 abbrev pub vector : Basis → ℕ → ℕ → ℕ
 vector b k p = slice_index (slice_index_or b.vectors k []) p
 
@@ -47,18 +64,16 @@ sum_at b i j = slice_index (slice_index_or b.sums i []) j
 abbrev pub lead : Basis → ℕ → ℕ → ℕ
 lead b i j = slice_index (slice_index_or b.leads i []) j
 
--- a list of n symbols
 pub record IsWord (bits n : ℕ) (xs : List ℕ) : Type 0 where
   pub n_long : length xs ≡ n
   pub symbols : All (λ x. x < 2 ^ bits) xs
 
--- v is a combination of the vectors of the members whose ranks are below s
+-- v is such a combination: its factors are 0 at the other members
 pub record IsSpannedBelow (mul : ℕ → ℕ → ℕ) (b : Basis) (s : ℕ) (v : ℕ → ℕ) : Type 0 where
   pub factors : ℕ → ℕ
   pub only_below : (k : ℕ) → k < b.n → s ≤ rank_at b k → factors k ≡ 0
   pub is_sum : (p : ℕ) → p < b.n → v p ≡ combine mul b.n factors (vector b) p
 
--- the product list of members i and j: position by position
 abbrev pub product : (ℕ → ℕ → ℕ) → Basis → ℕ → ℕ → ℕ → ℕ
 product mul b i j p = mul (vector b i p) (vector b j p)
 
@@ -94,7 +109,6 @@ pub record HasLead (mul : ℕ → ℕ → ℕ) (b : Basis) (i j k : ℕ) : Type 
   pub lead_not_zero : lead b i j ≢ 0
   pub rest : IsSpannedBelow mul b (rank_at b k) (λ p. bit_xor (product mul b i j p) (mul (lead b i j) (vector b k p)))
 
--- The number of pairs of member k is as it says, and is at least 1
 pub record HasPairs (b : Basis) (k : ℕ) : Type 0 where
   pub counted : pairs_at b k ≡ pairs b.n (sum_at b) (rank_at b k)
   pub some_pair : 1 ≤ pairs_at b k
@@ -109,11 +123,9 @@ pub record IsSound (mul : ℕ → ℕ → ℕ) (b : Basis) : Type 0 where
   pub other_products : (i j : ℕ) → i < b.n → j < b.n → sum_at b i j < b.count → ((k : ℕ) → k < b.n → sum_at b i j ≢ rank_at b k) → IsSpannedBelow mul b (sum_at b i j) (product mul b i j)
   pub pairs_counted : (k : ℕ) → k < b.n → HasPairs b k
 
--- the product of the field that the bits and the modulus of b name
 abbrev pub times : Basis → ℕ → ℕ → ℕ
 times b = gf_mul b.bits b.modulus
 
--- the bits and the modulus of b are those of a field, over which b is sound
 pub record IsSoundBasis (b : Basis) : Type 0 where
   pub modulus : IsModulus b.bits b.modulus
   pub sound : IsSound (times b) b

@@ -1,5 +1,27 @@
--- The theorems of this crate, as statements.
-use Rattle.std.specs.Prelude.{◌≡◌, ◌≢◌, ℕ, ◌+◌, ◌*◌, ◌^◌, ◌<◌, ◌≤◌, ◌↔◌, Bool, true, false, bit_xor, List, length, slice_index}
+-- RankLaw          the ranks of an error are ranks in the sense of the counting theory, at most its weight
+-- GreatestRankLaw  a rank is the greatest number of independent rows
+-- MajorityLaw      the counts of the votes on a member, and that the right ones win where the error is light
+-- DistanceLaw      a codeword that is not zero is as heavy as the pairs of some member that is not marked
+-- BoundLaw         hence it is as heavy as the order bound
+-- RadiusLaw        what the radius of a bound is
+-- NearLaw          at most one codeword is near a list of bytes
+-- ErrorLaw         a list of symbols has at most one light error
+-- KnownLaw         what the known syndromes of an error tell of its entries and candidates
+-- VoteLaw          a candidate is right exactly where it votes for the syndrome of the error
+-- VoteOnceLaw      each candidate has one vote
+-- VoteMadeLaw      how a vote is made, from the value that keeps the rank
+-- ElectionLaw      the elected value is the syndrome of the error
+-- RecoveryLaw      an error is the combination of the dual lists by its syndromes
+-- SyndromeLaw      two errors with the same syndromes are one
+-- StepLaw          a multiple of a dual list changes one syndrome
+-- MarkedLaw        a working list stays on course where it takes the syndrome of a marked member from what was received
+-- VotedLaw         .. and that of a member that is not marked from the vote
+-- FoundLaw         a list that is on course to the end is the error, if there is one
+-- NearErrorLaw     a near codeword gives an error, and the error leads back to it
+-- OriginLaw        what ordered functions give of the products and the pairs of a basis that holds their new ones
+-- SoundLaw         so such a basis is sound
+-- RanksOf, IsGreatestRank, VotesOn, KnownPart, VotesOnce, NearGives, OriginOf   what these laws give
+use Rattle.std.specs.Prelude.{◌≡◌, ◌≢◌, ℕ, ◌+◌, ◌-◌, ◌*◌, ◌/◌, ◌^◌, ◌<◌, ◌≤◌, ◌↔◌, Bool, true, false, bit_xor, List, length, slice_index}
 use Rattle.linear_theory.specs.Linear.{AreIndependent}
 use Rattle.counting_theory.specs.Votes.{pairs}
 use Rattle.counting_theory.specs.Ranks.{IsRank, candidate, right}
@@ -7,7 +29,7 @@ use Rattle.field_theory.specs.Field.{IsField}
 use Rattle.order_theory.specs.Basis.{HasShape, HasLead, IsSpannedBelow, product, Basis, IsWord, IsSound, sum_at, rank_at, pairs_at, lead, dual}
 use Rattle.order_theory.specs.Domains.{IsOrdered, HasMembers}
 use Rattle.order_theory.specs.Errors.{weight, syndrome, entry, part_rank, right_at, wrong_at, pivots_at}
-use Rattle.order_theory.specs.Codes.{low_bits, marked, IsCodeword, IsBound, list_sum, distance}
+use Rattle.order_theory.specs.Codes.{low_bits, marked, IsCodeword, IsBound, IsRadius, IsNear, list_sum}
 use Rattle.order_theory.specs.Voting.{SameBelow, IsResidue, IsVote, IsElected, vote_at, dual_sum}
 use Rattle.order_theory.specs.Course.{IsErrorOf, IsOnCourse, IsMoved}
 
@@ -49,11 +71,15 @@ abbrev pub BoundLaw : Type 0
 BoundLaw =
     (mul : ℕ → ℕ → ℕ) (b : Basis) (marks : List Bool) (d : ℕ) (x : List ℕ) → IsSound mul b → IsBound b marks d → IsCodeword mul b marks x → weight x ≢ 0 → d ≤ weight x
 
+-- the radius is half the bound less one, rounded down
+abbrev pub RadiusLaw : Type 0
+RadiusLaw = (d t : ℕ) → 1 ≤ d → IsRadius d t ↔ (t ≡ (d - 1) / 2)
+
 -- at most one codeword lies within t of a list of n bytes, where 2t is below the bound
 abbrev pub NearLaw : Type 0
 NearLaw =
     (mul : ℕ → ℕ → ℕ) (b : Basis) (marks : List Bool) (t d : ℕ) (y x x' : List ℕ) → IsSound mul b → IsBound b marks d → 2 * t < d →
-    length y ≡ b.n → IsCodeword mul b marks x → IsCodeword mul b marks x' → distance y x ≤ t → distance y x' ≤ t → x ≡ x'
+    length y ≡ b.n → IsNear mul b marks t y x → IsNear mul b marks t y x' → x ≡ x'
 
 -- and at most one error of weight at most t makes it one
 abbrev pub ErrorLaw : Type 0
@@ -145,7 +171,7 @@ pub record NearGives (mul : ℕ → ℕ → ℕ) (b : Basis) (marks : List Bool)
 
 abbrev pub NearErrorLaw : Type 0
 NearErrorLaw =
-    (mul : ℕ → ℕ → ℕ) (b : Basis) (marks : List Bool) (t : ℕ) (y x : List ℕ) → IsSound mul b → length y ≡ b.n → IsCodeword mul b marks x → distance y x ≤ t → NearGives mul b marks t y x
+    (mul : ℕ → ℕ → ℕ) (b : Basis) (marks : List Bool) (t : ℕ) (y x : List ℕ) → IsSound mul b → length y ≡ b.n → IsNear mul b marks t y x → NearGives mul b marks t y x
 
 -- What the laws of the functions give of a basis that holds its members: its products, and that a pair whose sum is a
 -- member is a pair of members
