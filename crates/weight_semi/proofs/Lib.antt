@@ -1,0 +1,3 @@
+pub mod Coprime
+pub mod Exponents
+pub mod PairCount
