@@ -1,15 +1,9 @@
 -- The curve y^2 + y = x^3 over GF(4)
-use Rattle.std.proofs.lemmas.Bool.{and_parts, eqb-true, ltb-true}
-use Rattle.std.proofs.lemmas.Nat.{xor_mod}
 use Rattle.std.proofs.lemmas.Nat.Gcd.{IsGcd-from_zero, IsGcd-swap, IsGcd-from_sub}
 use Rattle.std.proofs.lemmas.List.Elements.{All-from_recursion}
 use Rattle.std.specs.List.{AllPairs}
-use Rattle.field_theory.specs.Field.{IsField}
-use Rattle.curve_theory.specs.CurveDomain.{IsCurveDomain}
-use Rattle.field_theory.proofs.Sums.{eq_or_below}
 use Rattle.curve_theory.proofs.Equation.{equation_from}
-use Rattle.curve_theory.proofs.CurveDomain.{curve_domain}
-use Rattle.std.proofs.Common.{◌≢◌, ◌<◌, ◌≤◌, ◌%◌, ◌&&◌, Bool, true, ltb, eqb, ap, ◌∙◌, arith, bit_xor, inl, inr, zero, suc, mod-lt, mod-eq_of_lt, ◌≡◌, ℕ, ◌+◌, ◌*◌, List, [], ◌∷◌, map, refl, get_or}
+use Rattle.std.proofs.Common.{◌<◌, ◌≤◌, ◌%◌, arith, zero, suc, ◌≡◌, ℕ, ◌+◌, ◌*◌, List, [], ◌∷◌, map, refl, get_or}
 use Rattle.curve_theory.specs.Semigroup.{is_pair, pairs, is_member, y_exponent, x_exponent, weight_at, at_place, function_count}
 use Rattle.curve_theory.specs.Curve.{Term, value, IsEquation}
 use Rattle.curve_theory.specs.Weights.{one_by_weights, times_x_by_weights, times_y_by_weights}
@@ -65,54 +59,7 @@ times_x_example : map (times_x_by_weights 2 y_cube) (3 ∷ 5 ∷ 8 ∷ 11 ∷ []
 unfolding relation inverse_of y_cube x_exponent y_exponent
 times_x_example = refl
 
--- the theorems hold of this curve
-abbrev all_below : ℕ → (ℕ → Bool) → Bool
-all_below zero p = true
-all_below (suc n) p = all_below n p && p n
-
-all_below-yes : (n : ℕ) (p : ℕ → Bool) → all_below n p ≡ true → (i : ℕ) → i < n → p i ≡ true
-all_below-yes zero p h i l = absurd (omega arith)
-all_below-yes (suc n) p h i l =
-    let both : (all_below n p ≡ true) × (p n ≡ true) = and_parts (all_below n p) (p n) h in
-    elim (eq_or_below i n l) [
-      | inl d ↦ ap p d ∙ both.1
-      | inr m ↦ all_below-yes n p both.0 i m
-    ]
-
-rest_below : (x : ℕ) → x % 4 < 4
-rest_below x = mod-lt x (omega arith)
-
-check_2 : (p : ℕ → ℕ → Bool) → all_below 4 (λ x. all_below 4 (λ y. p x y)) ≡ true → (x y : ℕ) → p (x % 4) (y % 4) ≡ true
-check_2 p h x y = all_below-yes 4 (p (x % 4)) (all_below-yes 4 (λ x. all_below 4 (λ y. p x y)) h (x % 4) (rest_below x)) (y % 4) (rest_below y)
-
-check_3 : (p : ℕ → ℕ → ℕ → Bool) → all_below 4 (λ x. all_below 4 (λ y. all_below 4 (λ z. p x y z))) ≡ true → (x y z : ℕ) → p (x % 4) (y % 4) (z % 4) ≡ true
-check_3 p h x y z =
-    check_2 (p (x % 4)) (all_below-yes 4 (λ x. all_below 4 (λ y. all_below 4 (λ z. p x y z))) h (x % 4) (rest_below x)) y z
-
-inverse_4 : (x : ℕ) → x < 4 → x ≢ 0 → (y : ℕ) × (y < 4) × (times4 x y ≡ 1)
-inverse_4 zero l h = absurd (h refl)
-inverse_4 (suc zero) l h = (1, omega arith, refl)
-inverse_4 (suc (suc zero)) l h = (3, omega arith, refl)
-inverse_4 (suc (suc (suc zero))) l h = (2, omega arith, refl)
-inverse_4 (suc (suc (suc (suc x)))) l h = absurd (omega arith)
-
-pub field_4 : IsField 4 times4
-field_4 = record {
-  bits = 2;
-  size_is = refl;
-  one_below = omega arith;
-  mul_below = λ x y. ltb-true (times4 x y) 4 (check_2 (λ x y. ltb (entry4 x y) 4) refl x y);
-  mul_comm = λ x y. eqb-true (times4 x y) (times4 y x) (check_2 (λ x y. eqb (entry4 x y) (entry4 y x)) refl x y);
-  mul_assoc = λ x y z. eqb-true (times4 (times4 x y) z) (times4 x (times4 y z)) (check_3 (λ x y z. eqb (entry4 (entry4 x y % 4) z) (entry4 x (entry4 y z % 4))) refl x y z);
-  mul_xor = λ x y z.
-      ap (λ w. entry4 (x % 4) w) (xor_mod y z 2)
-      ∙ eqb-true (entry4 (x % 4) (bit_xor (y % 4) (z % 4))) (bit_xor (times4 x y) (times4 x z)) (check_3 (λ x y z. eqb (entry4 x (bit_xor y z)) (bit_xor (entry4 x y) (entry4 x z))) refl x y z);
-  one_mul = λ x l.
-      let e : x % 4 ≡ x = mod-eq_of_lt l in
-      eqb-true (entry4 1 (x % 4)) (x % 4) (check_2 (λ x y. eqb (entry4 1 x) x) refl x 0) ∙ e;
-  inverse = inverse_4;
-}
-
+-- the equation is one in the sense of the theorems
 distinct_a : AllPairs (λ s t. s.i ≡ t.i → s.j ≡ t.j → ⊥) terms_a
 distinct_a zero (suc zero) d l m e f = absurd (omega arith)
 distinct_a zero (suc (suc zero)) d l m e f = absurd (omega arith)
@@ -129,6 +76,3 @@ equation_a =
     (All-from_recursion (λ t. (0 < t.c) × (t.c < 4)) terms_a ((omega arith, omega arith), ((omega arith, omega arith), ((omega arith, omega arith), tt))))
     (All-from_recursion (λ t. 2 * t.i + 3 * t.j ≤ 2 * 3) terms_a (omega arith, (omega arith, (omega arith, tt))))
     distinct_a refl refl
-
-pub domain_a : IsCurveDomain 4 times4 2 3 terms_a
-domain_a = curve_domain 4 times4 field_4 2 3 terms_a equation_a

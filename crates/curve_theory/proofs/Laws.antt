@@ -1,15 +1,18 @@
 -- The laws of the functions of a curve, by index
 use Rattle.std.proofs.lemmas.Bool.{cases_Bool, cond-true, cond-false}
 use Rattle.std.proofs.Common.{◌≡◌, ◌≢◌, ℕ, zero, suc, ◌+◌, ◌<◌, ◌≤◌, Bool, cond, List, sym, ◌∙◌, ap, subst, refl, inl, inr, arith, bit_xor, Some}
+use Rattle.std.proofs.lemmas.Nat.{xor_comm}
 use Rattle.std.specs.Int.Bits.{xor_zero_r}
 use Rattle.field_theory.specs.Field.{IsField}
 use Rattle.field_theory.specs.Sums.{xor_sum}
-use Rattle.curve_theory.specs.Curve.{Term, IsEquation, IsOnCurve}
+use Rattle.curve_theory.specs.Curve.{Term, IsEquation}
 use Rattle.field_theory.specs.Sums.{count_below}
 use Rattle.curve_theory.specs.Semigroup.{is_member, at_place, function_count, weight_at, place_of, sum_of}
 use Rattle.curve_theory.specs.Normal.{function_value, product_coefficient, lead_of, curve_function}
+use Rattle.curve_theory.specs.Functions.{IsFunctionProduct}
 use Rattle.field_theory.proofs.Sums.{sum-same, zero-mul}
-use Rattle.curve_theory.proofs.Places.{count_below-yes, count_below-no, at_place-count, IsFunction, weight_at-is, IsSum, sum_of-some}
+use Rattle.field_theory.proofs.Counts.{count_below-yes, count_below-no}
+use Rattle.curve_theory.proofs.Places.{at_place-count, IsFunction, weight_at-is, IsSum, sum_of-some}
 use Rattle.curve_theory.proofs.Product.{IsProduct, product_coefficient-is}
 
 -- a sum over the places of the numbers with p is the sum over these numbers
@@ -32,18 +35,8 @@ sum-at_place (suc n) m p g l =
     ]
 
 module _ (size : ℕ) (mul : ℕ → ℕ → ℕ) (field : IsField size mul) (a b : ℕ) (ts : List Term) (curve : IsEquation size a b ts) (top : ℕ) where
-  -- the product of functions i and j is a lead times function s, plus a combination of functions below s
-  pub record IsIndexProduct (i j s lead : ℕ) : Type 0 where
-    pub factors : ℕ → ℕ
-    pub symbols : (k : ℕ) → factors k < size
-    pub lead_symbol : lead < size
-    pub lead_nonzero : lead ≢ 0
-    pub value_is : (x y : ℕ) → IsOnCurve size mul ts x y →
-        mul (curve_function mul a b top i x y) (curve_function mul a b top j x y)
-        ≡ bit_xor (xor_sum s (λ k. mul (factors k) (curve_function mul a b top k x y))) (mul lead (curve_function mul a b top s x y))
-
   pub product_by_index : (i j s : ℕ) → i < function_count a b top → j < function_count a b top → sum_of a b top i j ≡ Some s →
-      IsIndexProduct i j s (lead_of size mul a b ts (weight_at a b top i) (weight_at a b top j))
+      IsFunctionProduct size mul a b ts top i j s
   unfolding place_of weight_at function_count
   product_by_index i j s li lj h =
       let u : ℕ = weight_at a b top i in
@@ -58,11 +51,10 @@ module _ (size : ℕ) (mul : ℕ → ℕ → ℕ) (field : IsField size mul) (a 
       let count : count_below (u + v) (is_member a b) ≡ s = ap (place_of a b) (sym ws) ∙ fs.place in
       let low : u + v ≤ top = subst (λ (z : ℕ). z ≤ top) ws fs.within in
       record {
-        factors = λ k. C (weight_at a b top k);
-        symbols = λ k. prod.symbol (weight_at a b top k);
+        symbols = prod.symbol;
         lead_symbol = subst (λ (z : ℕ). z < size) prod.lead (prod.symbol (u + v));
-        lead_nonzero = subst (λ (z : ℕ). z ≢ 0) prod.lead prod.lead_nonzero;
-        value_is = λ x y on.
+        lead_not_zero = subst (λ (z : ℕ). z ≢ 0) prod.lead prod.lead_nonzero;
+        product = λ x y on.
             let F : ℕ → ℕ = λ w. function_value mul a b w x y in
             prod.value_is x y on
             ∙ ap (λ z. bit_xor z (mul (C (u + v)) (F (u + v))))
@@ -74,5 +66,6 @@ module _ (size : ℕ) (mul : ℕ → ℕ → ℕ) (field : IsField size mul) (a 
             ∙ sym (sum-at_place (u + v) (top + 1) (is_member a b) (λ w. mul (C w) (F w)) (omega arith))
             ∙ ap (λ q. xor_sum q (λ k. mul (C (weight_at a b top k)) (curve_function mul a b top k x y))) count)
             ∙ ap (λ z. bit_xor (xor_sum s (λ k. mul (C (weight_at a b top k)) (curve_function mul a b top k x y))) (mul z (F (u + v)))) prod.lead
-            ∙ ap (λ z. bit_xor (xor_sum s (λ k. mul (C (weight_at a b top k)) (curve_function mul a b top k x y))) (mul (lead_of size mul a b ts u v) (F z))) (sym ws);
+            ∙ ap (λ z. bit_xor (xor_sum s (λ k. mul (C (weight_at a b top k)) (curve_function mul a b top k x y))) (mul (lead_of size mul a b ts u v) (F z))) (sym ws)
+            ∙ xor_comm (xor_sum s (λ k. mul (C (weight_at a b top k)) (curve_function mul a b top k x y))) (mul (lead_of size mul a b ts u v) (F (weight_at a b top s)));
       }

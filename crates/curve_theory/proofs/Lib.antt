@@ -9,7 +9,7 @@ pub mod Roots
 pub mod Separate
 pub mod Unique
 pub mod Exists
-pub mod CurveDomain
+pub mod Functions
 pub mod Weights
 pub mod Equation
 pub mod Pairs

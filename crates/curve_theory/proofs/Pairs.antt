@@ -1,12 +1,12 @@
 -- The pairs of indices with a sum are the pairs of members with the sum of the weights
-use Rattle.std.proofs.Common.{◌≡◌, ◌≢◌, ℕ, zero, suc, ◌+◌, ◌-◌, ◌<◌, ◌≤◌, Bool, true, false, cond, leb, ◌&&◌, sym, ◌∙◌, ap, subst, refl, inl, inr, arith, Option, Some, None}
+use Rattle.std.proofs.Common.{◌≡◌, ℕ, zero, suc, ◌+◌, ◌-◌, ◌<◌, ◌≤◌, Bool, true, false, cond, leb, ◌&&◌, sym, ◌∙◌, ap, subst, refl, inl, inr, arith, Option, Some, None}
 use Rattle.std.proofs.lemmas.Bool.{cases_Bool, and_parts, and_from, and_left, and_right, leb-true, le-leb, lt-leb, eqb-true, eq-eqb, cond-true, cond-false, both_ways, false_from_ne_true}
-use Rattle.field_theory.specs.Sums.{total, count_below}
+use Rattle.field_theory.specs.Sums.{total, one_if, count_below, count_pairs}
 use Rattle.field_theory.proofs.Totals.{total_same}
 use Rattle.curve_theory.specs.Semigroup.{is_member, at_place, function_count, weight_at, place_of, sum_of, is_pair, pairs}
-use Rattle.curve_theory.specs.Domain.{answers, pair_count}
-use Rattle.field_theory.proofs.Sums.{eq_or_below}
-use Rattle.curve_theory.proofs.Places.{count_below-yes, count_below-no, at_place-count, IsFunction, weight_at-is, weight_at-place, place_of-below, sum_of-some, sum_of-from}
+use Rattle.curve_theory.specs.Functions.{answers}
+use Rattle.field_theory.proofs.Counts.{count_below-yes, count_below-no, count_below-none, count_below-one, count_below-past, count_below-same, total-tests}
+use Rattle.curve_theory.proofs.Places.{at_place-count, IsFunction, weight_at-is, weight_at-place, place_of-below, sum_of-some, sum_of-from}
 
 total-at_place : (n m : ℕ) (p : ℕ → Bool) (g : ℕ → ℕ) → n ≤ m → total (count_below n p) (λ k. g (at_place m p k)) ≡ total n (λ w. cond (p w) (g w) 0)
 total-at_place zero m p g l = refl
@@ -24,38 +24,6 @@ total-at_place (suc n) m p g l =
           ap (λ q. total q (λ k. g (at_place m p k))) (count_below-no n p e) ∙ ih ∙ z
           ∙ ap (λ z. total n (λ w. cond (p w) (g w) 0) + z) (sym (cond-false (p n) (g n) 0 e))
     ]
-
-total-tests : (n : ℕ) (q : ℕ → Bool) → total n (λ w. cond (q w) 1 0) ≡ count_below n q
-total-tests zero q = refl
-total-tests (suc n) q = ap (λ z. z + cond (q n) 1 0) (total-tests n q)
-
-count_none : (n : ℕ) (p : ℕ → Bool) → ((k : ℕ) → k < n → p k ≡ false) → count_below n p ≡ 0
-count_none zero p h = refl
-count_none (suc n) p h = count_below-no n p (h n (omega arith)) ∙ count_none n p (λ k l. h k (omega arith))
-
-count_one : (n : ℕ) (p : ℕ → Bool) (t : ℕ) → t < n → p t ≡ true → ((k : ℕ) → k < n → k ≢ t → p k ≡ false) → count_below n p ≡ 1
-count_one zero p t l h only = absurd (omega arith)
-count_one (suc n) p t l h only =
-    elim (eq_or_below t n l) [
-      | inl e ↦
-          let c : count_below (suc n) p ≡ count_below n p + 1 = count_below-yes n p (ap p (sym e) ∙ h) in
-          let z : count_below n p ≡ 0 = count_none n p (λ k m. only k (omega arith) (omega arith)) in
-          omega arith
-      | inr m ↦
-          count_below-no n p (only n (omega arith) (omega arith)) ∙ count_one n p t m h (λ k o d. only k (omega arith) d)
-    ]
-
-count_same : (n : ℕ) (p q : ℕ → Bool) → ((k : ℕ) → k < n → p k ≡ q k) → count_below n p ≡ count_below n q
-count_same zero p q h = refl
-count_same (suc n) p q h =
-    ap (λ z. z + cond (p n) 1 0) (count_same n p q (λ k l. h k (omega arith)))
-    ∙ ap (λ z. count_below n q + cond z 1 0) (h n (omega arith))
-
-count_past : (d n : ℕ) (p : ℕ → Bool) → ((k : ℕ) → n ≤ k → p k ≡ false) → count_below (d + n) p ≡ count_below n p
-count_past zero n p h = let e : 0 + n ≡ n = omega arith in ap (λ z. count_below z p) e
-count_past (suc d) n p h =
-    let e : suc d + n ≡ suc (d + n) = omega arith in
-    ap (λ z. count_below z p) e ∙ count_below-no (d + n) p (h (d + n) (omega arith)) ∙ count_past d n p h
 
 answers-true : (o : Option ℕ) (s : ℕ) → answers o s ≡ true → o ≡ Some s
 answers-true None s h = absurd (both_ways false refl h)
@@ -90,7 +58,7 @@ module _ (a b top : ℕ) (pos : 0 < a) (s : ℕ) (within : s < function_count a 
             let at : p t ≡ true =
             ap (λ o. answers o s) (sum_of-from a b top i t (omega arith) ∙ ap (λ (z : ℕ). Some (place_of a b z)) total ∙ ap (λ (z : ℕ). Some z) fs.place)
             ∙ eq-eqb s s refl in
-            count_one n p t t_below at
+            count_below-one n p t t_below at
             (λ k m d. false_from_ne_true (p k) (λ h.
             let fk : IsFunction a b top k (weight_at a b top k) = weight_at-is a b top k m in
             let ft : IsFunction a b top t (weight_at a b top t) = weight_at-is a b top t t_below in
@@ -99,7 +67,7 @@ module _ (a b top : ℕ) (pos : 0 < a) (s : ℕ) (within : s < function_count a 
             d (sym fk.place ∙ ap (place_of a b) same ∙ ft.place)))
             ∙ sym (cond-true (leb u w && is_member a b (w - u)) 1 0 e)
         | inr e ↦
-            count_none n p (λ k m. false_from_ne_true (p k) (λ h.
+            count_below-none n p (λ k m. false_from_ne_true (p k) (λ h.
             let fk : IsFunction a b top k (weight_at a b top k) = weight_at-is a b top k m in
             let wk : w ≡ u + weight_at a b top k = sum_is k m h in
             let rest : weight_at a b top k ≡ w - u = omega arith in
@@ -112,20 +80,22 @@ module _ (a b top : ℕ) (pos : 0 < a) (s : ℕ) (within : s < function_count a 
   cond_cond true q = refl
   cond_cond false q = refl
 
-  pub pair_count-is : pair_count (function_count a b top) (sum_of a b top) s ≡ pairs a b (weight_at a b top s)
-  unfolding pairs is_pair fits W weight_at function_count
-  pair_count-is =
+  pub pairs-by_weight : count_pairs (function_count a b top) (λ i j. answers (sum_of a b top i j) s) ≡ pairs a b (weight_at a b top s)
+  unfolding count_pairs pairs is_pair fits W weight_at function_count
+  pairs-by_weight =
       let w : ℕ = weight_at a b top s in
       let M : ℕ → Bool = is_member a b in
       let F : ℕ → Bool = λ u. leb u w && is_member a b (w - u) in
       let low : w ≤ top = (weight_at-is a b top s within).within in
       let e : top + 1 ≡ (top - w) + (w + 1) = omega arith in
-      total_same (function_count a b top) (λ i. count_below (function_count a b top) (λ j. answers (sum_of a b top i j) s)) (λ i. cond (F (weight_at a b top i)) 1 0) one_each
+      let n : ℕ = function_count a b top in
+      total_same n (λ i. total n (λ j. one_if (answers (sum_of a b top i j) s))) (λ i. cond (F (weight_at a b top i)) 1 0)
+      (λ i l. total-tests n (λ j. answers (sum_of a b top i j) s) ∙ one_each i l)
       ∙ total-at_place (top + 1) (top + 1) M (λ u. cond (F u) 1 0) (omega arith)
       ∙ total_same (top + 1) (λ u. cond (M u) (cond (F u) 1 0) 0) (λ u. cond (M u && F u) 1 0) (λ u l. cond_cond (M u) (F u))
       ∙ total-tests (top + 1) (λ u. M u && F u)
       ∙ ap (λ q. count_below q (λ u. M u && F u)) e
-      ∙ count_past (top - w) (w + 1) (λ u. M u && F u)
+      ∙ count_below-past (top - w) (w + 1) (λ u. M u && F u)
       (λ k l. and_right (M k) (F k) (and_left (leb k w) (is_member a b (w - k)) (lt-leb k w (omega arith))))
-      ∙ count_same (w + 1) (λ u. M u && F u) (λ u. M u && is_member a b (w - u))
+      ∙ count_below-same (w + 1) (λ u. M u && F u) (λ u. M u && is_member a b (w - u))
       (λ u l. ap (λ q. M u && (q && is_member a b (w - u))) (le-leb u w (omega arith)))

@@ -1,42 +1,10 @@
 -- The functions by rising weight: the laws of labels and sums
-use Rattle.std.proofs.Common.{◌≡◌, ℕ, zero, suc, ◌+◌, ◌-◌, ◌<◌, ◌≤◌, Bool, true, false, cond, ltb, leb, sym, ◌∙◌, ap, subst, refl, inl, inr, arith, Some, None, add_comm}
+use Rattle.std.proofs.Common.{◌≡◌, ℕ, zero, suc, ◌+◌, ◌<◌, ◌≤◌, Bool, true, cond, ltb, leb, sym, ◌∙◌, ap, subst, refl, inl, inr, arith, Some, None, add_comm}
 use Rattle.std.proofs.lemmas.Bool.{cases_eq, cases_lt, cases_Bool, le-leb, lt-leb, ltb-true, lt-ltb, cond-true, cond-false}
 use Rattle.field_theory.specs.Sums.{count_below}
+use Rattle.field_theory.proofs.Counts.{count_below-yes, count_below-no, count_below-mono, count_below-lt}
 use Rattle.curve_theory.specs.Semigroup.{first_below, is_member, at_place, function_count, weight_at, place_of, sum_of}
 use Rattle.curve_theory.proofs.Semigroup.{first_below-holds, first_below-at_most, is_member-add, is_member-zero}
-
-pub count_below-yes : (n : ℕ) (p : ℕ → Bool) → p n ≡ true → count_below (suc n) p ≡ count_below n p + 1
-count_below-yes n p h = ap (λ (x : ℕ). count_below n p + x) (cond-true (p n) 1 0 h)
-
-pub count_below-no : (n : ℕ) (p : ℕ → Bool) → p n ≡ false → count_below (suc n) p ≡ count_below n p
-count_below-no n p h = ap (λ (x : ℕ). count_below n p + x) (cond-false (p n) 1 0 h) ∙ omega arith
-
--- the same at n + 1, as a loop's step has it
-pub count_below-next_yes : (n : ℕ) (p : ℕ → Bool) → p n ≡ true → count_below (n + 1) p ≡ count_below n p + 1
-count_below-next_yes n p h = let e : n + 1 ≡ suc n = omega arith in ap (λ (z : ℕ). count_below z p) e ∙ count_below-yes n p h
-
-pub count_below-next_no : (n : ℕ) (p : ℕ → Bool) → p n ≡ false → count_below (n + 1) p ≡ count_below n p
-count_below-next_no n p h = let e : n + 1 ≡ suc n = omega arith in ap (λ (z : ℕ). count_below z p) e ∙ count_below-no n p h
-
-pub count_below-more : (d n : ℕ) (p : ℕ → Bool) → count_below n p ≤ count_below (d + n) p
-count_below-more zero n p = let e : 0 + n ≡ n = omega arith in subst (λ (x : ℕ). count_below n p ≤ count_below x p) (sym e) (omega arith)
-count_below-more (suc d) n p =
-    let ih : count_below n p ≤ count_below (d + n) p = count_below-more d n p in
-    let e : suc d + n ≡ suc (d + n) = omega arith in
-    let s : count_below (suc (d + n)) p ≡ count_below (d + n) p + cond (p (d + n)) 1 0 = refl in
-    let h : count_below n p ≤ count_below (suc (d + n)) p = omega arith in
-    subst (λ (x : ℕ). count_below n p ≤ count_below x p) (sym e) h
-
-pub count_below-mono : (m n : ℕ) (p : ℕ → Bool) → m ≤ n → count_below m p ≤ count_below n p
-count_below-mono m n p l =
-    let e : (n - m) + m ≡ n = omega arith in
-    subst (λ (x : ℕ). count_below m p ≤ count_below x p) e (count_below-more (n - m) m p)
-
-pub count_below-lt : (m n : ℕ) (p : ℕ → Bool) → m < n → p m ≡ true → count_below m p < count_below n p
-count_below-lt m n p l h =
-    let e : count_below (suc m) p ≡ count_below m p + 1 = count_below-yes m p h in
-    let f : count_below (suc m) p ≤ count_below n p = count_below-mono (suc m) n p (omega arith) in
-    omega arith
 
 pub at_place-count : (n : ℕ) (p : ℕ → Bool) (w : ℕ) → w < n → p w ≡ true → at_place n p (count_below w p) ≡ w
 unfolding at_place

@@ -2,7 +2,7 @@
 use Rattle.std.proofs.lemmas.Bool.{cases_eq, cases_lt, cases_Bool, eqb-true, eq-eqb, ne_eqb, cond-true, cond-false, both_ways}
 use Rattle.std.specs.List.{AllByRecursion}
 use Rattle.std.proofs.lemmas.List.Elements.{recursion_from_All}
-use Rattle.std.proofs.Common.{◌≡◌, ◌≢◌, ℕ, zero, suc, ◌+◌, ◌-◌, ◌*◌, ◌<◌, ◌≤◌, Bool, true, false, cond, eqb, ◌&&◌, not, List, [], ◌∷◌, ◌++◌, sym, ◌∙◌, ap, subst, refl, inl, inr, arith, bit_xor, mul-le-mul_left}
+use Rattle.std.proofs.Common.{◌≡◌, ◌≢◌, ℕ, zero, suc, ◌+◌, ◌-◌, ◌*◌, ◌<◌, ◌≤◌, Bool, true, false, cond, eqb, ◌&&◌, not, List, [], ◌∷◌, sym, ◌∙◌, ap, subst, refl, inl, inr, arith, bit_xor, mul-le-mul_left}
 use Rattle.std.specs.Int.Bits.{xor_self, xor_zero_r}
 use Rattle.std.specs.Int.{IsGcd}
 use Rattle.field_theory.specs.Field.{IsField}
@@ -11,32 +11,22 @@ use Rattle.field_theory.specs.Sums.{count_below}
 use Rattle.curve_theory.specs.Semigroup.{at_place, is_member, function_count, weight_at}
 use Rattle.curve_theory.specs.Curve.{Term, power, monomial, value, coefficient, IsEquation, IsOnCurve, ArePoints}
 use Rattle.curve_theory.specs.Normal.{function_value, weight_coefficient, inverse_of, times_monomial, top_weight, combined}
+use Rattle.curve_theory.specs.Separation.{times_plus, times_product, without, separating_product, separating_coefficient}
+use Rattle.curve_theory.specs.Functions.{IsCurveSeparation}
 use Rattle.curve_theory.proofs.Semigroup.{is_member-weight}
-use Rattle.curve_theory.proofs.Places.{count_below-yes, count_below-no, IsPlace, at_place-is}
+use Rattle.field_theory.proofs.Counts.{count_below-yes, count_below-no, count_below-same, count_below-all}
+use Rattle.curve_theory.proofs.Places.{IsPlace, at_place-is}
 use Rattle.field_theory.proofs.Sums.{eq_or_below, xor_same, mul-zero, zero-mul, xor_mul, xor_below, zero_below, mul_one, one_mul-mul, mul_below-nonzero, sum-same}
 use Rattle.curve_theory.proofs.Values.{value-append, value-times_monomial, mul-inverse_of, inverse_of-below}
 use Rattle.curve_theory.proofs.Normal.{IsNormalTerm, AreNormal, all_append, all_weaken, weight_coefficient-not_member, weight_coefficient_below, value-by_weights}
 use Rattle.curve_theory.proofs.Roots.{column, lead-zero_from_roots, value-by_columns, column_below, column-lead}
 use Rattle.curve_theory.proofs.Laws.{sum-at_place}
 
--- a list of terms times x^i·y^j + c
-abbrev pub times_plus : (mul : ℕ → ℕ → ℕ) (i j c : ℕ) → List Term → List Term
-times_plus mul i j c ts = times_monomial mul i j 1 ts ++ times_monomial mul 0 0 c ts
-
--- a list of terms times the product of x^i·y^j + g k over the k below n with p k
-abbrev pub times_product : (mul : ℕ → ℕ → ℕ) (i j : ℕ) (g : ℕ → ℕ) (p : ℕ → Bool) → ℕ → List Term → List Term
-times_product mul i j g p zero ts = ts
-times_product mul i j g p (suc n) ts = cond (p n) (times_plus mul i j (g n) (times_product mul i j g p n ts)) (times_product mul i j g p n ts)
-
 -- exponents at most m and n, and symbols
 pub record IsWithin (size m n : ℕ) (t : Term) : Type 0 where
   pub x_most : t.i ≤ m
   pub y_most : t.j ≤ n
   pub symbol : t.c < size
-
--- how many of the k below n with q k there are beside t
-without : (q : ℕ → Bool) → ℕ → ℕ → Bool
-without q t k = q k && not (eqb k t)
 
 without-self : (q : ℕ → Bool) (t : ℕ) → without q t t ≡ false
 unfolding without
@@ -54,12 +44,6 @@ without-other q t k d = ap (λ z. q k && not z) (ne_eqb k t d) ∙ and_yes (q k)
     and_yes true = refl
     and_yes false = refl
 
-count_same : (n : ℕ) (p q : ℕ → Bool) → ((k : ℕ) → k < n → p k ≡ q k) → count_below n p ≡ count_below n q
-count_same zero p q h = refl
-count_same (suc n) p q h =
-    ap (λ z. z + cond (p n) 1 0) (count_same n p q (λ k l. h k (omega arith)))
-    ∙ ap (λ z. count_below n q + cond z 1 0) (h n (omega arith))
-
 count_without : (n : ℕ) (q : ℕ → Bool) (t : ℕ) → t < n → q t ≡ true → suc (count_below n (without q t)) ≡ count_below n q
 count_without zero q t l h = absurd (omega arith)
 count_without (suc n) q t l h =
@@ -68,7 +52,7 @@ count_without (suc n) q t l h =
           let off : without q t n ≡ false = ap (without q t) (sym e) ∙ without-self q t in
           let here : q n ≡ true = ap q (sym e) ∙ h in
           let a : count_below (suc n) (without q t) ≡ count_below n (without q t) = count_below-no n (without q t) off in
-          let b : count_below n (without q t) ≡ count_below n q = count_same n (without q t) q (λ k m. without-other q t k (omega arith)) in
+          let b : count_below n (without q t) ≡ count_below n q = count_below-same n (without q t) q (λ k m. without-other q t k (omega arith)) in
           let c : count_below (suc n) q ≡ count_below n q + 1 = count_below-yes n q here in
           omega arith
       | inr m ↦
@@ -77,10 +61,6 @@ count_without (suc n) q t l h =
           let a : count_below n (without q t) + cond (without q t n) 1 0 ≡ count_below n (without q t) + cond (q n) 1 0 = ap (λ z. count_below n (without q t) + cond z 1 0) same in
           omega arith
     ]
-
-count_all : (n : ℕ) → count_below n (λ k. true) ≡ n
-count_all zero = refl
-count_all (suc n) = let ih : count_below n (λ k. true) ≡ n = count_all n in omega arith
 
 module _ (size : ℕ) (mul : ℕ → ℕ → ℕ) (field : IsField size mul) where
   pub value_below : (ts : List Term) (x y : ℕ) → value mul ts x y < size
@@ -261,26 +241,14 @@ module _ (size : ℕ) (mul : ℕ → ℕ → ℕ) (field : IsField size mul) (a 
             absurd (curve.y_lead top)
       ]
 
-  -- a combination that is 1 at point t and 0 at the others
-  pub record IsSeparating (t : ℕ) (factors : ℕ → ℕ) : Type 0 where
-    pub symbols : (k : ℕ) → factors k < size
-    pub one_here : combined mul a b (top_weight size a b) factors (xs t) (ys t) ≡ 1
-    pub zero_there : (s : ℕ) → s < n → s ≢ t → combined mul a b (top_weight size a b) factors (xs s) (ys s) ≡ 0
-
-  x_product : ℕ → List Term
-  x_product t = times_product mul 1 0 (λ c. c) (without (λ k. true) (xs t)) size (record { i = 0; j = 0; c = 1 } ∷ [])
-
-  product_at : ℕ → List Term
-  product_at t = times_product mul 0 1 ys (without (λ k. eqb (xs k) (xs t)) t) n (x_product t)
-
-  product_at-within : (t : ℕ) → t < n → AllByRecursion (λ s. IsWithin size (size - 1) (a - 1) s) (product_at t)
-  unfolding product_at x_product
-  product_at-within t l =
+  separating_product-within : (t : ℕ) → t < n → AllByRecursion (λ s. IsWithin size (size - 1) (a - 1) s) (separating_product size mul n xs ys t)
+  unfolding separating_product
+  separating_product-within t l =
       let on : IsOnCurve size mul ts (xs t) (ys t) = points.on_curve t l in
       let q : ℕ → Bool = λ k. eqb (xs k) (xs t) in
       let cx : ℕ = count_below size (without (λ k. true) (xs t)) in
       let cy : ℕ = count_below n (without q t) in
-      let hx : suc cx ≡ size = count_without size (λ k. true) (xs t) on.x_below refl ∙ count_all size in
+      let hx : suc cx ≡ size = count_without size (λ k. true) (xs t) on.x_below refl ∙ count_below-all size in
       let hy : suc cy ≡ count_below n q = count_without n q t l (eq-eqb (xs t) (xs t) refl) in
       let most : count_below n q ≤ a = column-most (xs t) in
       let start : AllByRecursion (λ s. IsWithin size 0 0 s) (record { i = 0; j = 0; c = 1 } ∷ []) =
@@ -292,12 +260,12 @@ module _ (size : ℕ) (mul : ℕ → ℕ → ℕ) (field : IsField size mul) (a 
       (times_product mul 1 0 (λ c. c) (without (λ k. true) (xs t)) size (record { i = 0; j = 0; c = 1 } ∷ []))
       (times_product-within size mul field 1 0 (λ c. c) (without (λ k. true) (xs t)) size 0 0 (record { i = 0; j = 0; c = 1 } ∷ []) start))
 
-  product_at-nonzero : (t : ℕ) → t < n → value mul (product_at t) (xs t) (ys t) ≢ 0
-  unfolding product_at x_product
-  product_at-nonzero t l =
+  separating_product-nonzero : (t : ℕ) → t < n → value mul (separating_product size mul n xs ys t) (xs t) (ys t) ≢ 0
+  unfolding separating_product
+  separating_product-nonzero t l =
       let on : IsOnCurve size mul ts (xs t) (ys t) = points.on_curve t l in
       let q : ℕ → Bool = λ k. eqb (xs k) (xs t) in
-      times_product-nonzero size mul field 0 1 ys (without q t) n (x_product t) (xs t) (ys t)
+      times_product-nonzero size mul field 0 1 ys (without q t) n (times_product mul 1 0 (λ c. c) (without (λ c. true) (xs t)) size (record { i = 0; j = 0; c = 1 } ∷ [])) (xs t) (ys t)
       (λ k m. (points.on_curve k m).y_below)
       (λ k m h e.
       let apart : k ≢ t = λ d. both_ways (without q t k) (ap (without q t) d ∙ without-self q t) h in
@@ -313,15 +281,15 @@ module _ (size : ℕ) (mul : ℕ → ℕ → ℕ) (field : IsField size mul) (a 
       xor_zero_r (mul 1 (mul 1 1)) ∙ ap (λ z. mul 1 z) (field.one_mul 1 field.one_below) ∙ field.one_mul 1 field.one_below in
       let d : ◌≡◌ {A = ℕ} 1 0 = sym one_is ∙ z in absurd (omega arith)))
 
-  product_at-zero : (t s : ℕ) → t < n → s < n → s ≢ t → value mul (product_at t) (xs s) (ys s) ≡ 0
-  unfolding product_at x_product
-  product_at-zero t s l m d =
+  separating_product-zero : (t s : ℕ) → t < n → s < n → s ≢ t → value mul (separating_product size mul n xs ys t) (xs s) (ys s) ≡ 0
+  unfolding separating_product
+  separating_product-zero t s l m d =
       let on : IsOnCurve size mul ts (xs s) (ys s) = points.on_curve s m in
       let q : ℕ → Bool = λ k. eqb (xs k) (xs t) in
       elim (cases_eq (xs s) (xs t)) [
-        | inl e ↦ times_product-zero size mul field 0 1 ys (without q t) n (x_product t) (xs s) (ys s) s m
+        | inl e ↦ times_product-zero size mul field 0 1 ys (without q t) n (times_product mul 1 0 (λ c. c) (without (λ c. true) (xs t)) size (record { i = 0; j = 0; c = 1 } ∷ [])) (xs s) (ys s) s m
             (without-other q t s d ∙ eq-eqb (xs s) (xs t) e) (monomial_y size mul field (xs s) (ys s) on.y_below)
-        | inr e ↦ times_product-keeps_zero size mul field 0 1 ys (without q t) n (x_product t) (xs s) (ys s)
+        | inr e ↦ times_product-keeps_zero size mul field 0 1 ys (without q t) n (times_product mul 1 0 (λ c. c) (without (λ c. true) (xs t)) size (record { i = 0; j = 0; c = 1 } ∷ [])) (xs s) (ys s)
             (times_product-zero size mul field 1 0 (λ c. c) (without (λ k. true) (xs t)) size (record { i = 0; j = 0; c = 1 } ∷ []) (xs s) (ys s) (xs s) on.x_below
             (without-other (λ k. true) (xs t) (xs s) e) (monomial_x size mul field (xs s) (ys s) on.x_below))
       ]
@@ -336,33 +304,30 @@ module _ (size : ℕ) (mul : ℕ → ℕ → ℕ) (field : IsField size mul) (a 
       let y_most : s.j ≤ a - 1 = w.y_most in
       record { y_below = omega arith; weight = omega arith; symbol = w.symbol }) L h
 
-  pub record Separation (t : ℕ) : Type 0 where
-    pub factors : ℕ → ℕ
-    pub separates : IsSeparating t factors
-
-  pub separation : (t : ℕ) → t < n → Separation t
+  pub separation : (t : ℕ) → t < n → IsCurveSeparation size mul a b n xs ys t
+  unfolding separating_coefficient
   separation t l =
       let top : ℕ = top_weight size a b in
-      let T : List Term = product_at t in
+      let T : List Term = separating_product size mul n xs ys t in
       let V : ℕ = value mul T (xs t) (ys t) in
       let u : ℕ = inverse_of size mul V in
       let below : V < size = value_below size mul field T (xs t) (ys t) in
       let L : List Term = times_monomial mul 0 0 u T in
       let within : AllByRecursion (λ s. IsWithin size (size - 1) (a - 1) s) L =
       within_weaken size mul field (size - 1 + 0) (a - 1 + 0) (size - 1) (a - 1) L (omega arith) (omega arith)
-      (times_monomial-within size mul field 0 0 u (size - 1) (a - 1) T (product_at-within t l)) in
+      (times_monomial-within size mul field 0 0 u (size - 1) (a - 1) T (separating_product-within t l)) in
       let normal : AreNormal size a b top L = normal_from_within L within in
       let scaled : (x y : ℕ) → value mul L x y ≡ mul u (value mul T x y) = λ x y.
       value-times_monomial size mul field 0 0 u T x y
       ∙ ap (λ z. mul (mul u z) (value mul T x y)) (field.one_mul 1 field.one_below)
-      ∙ ap (λ z. mul z (value mul T x y)) (mul_one size mul field u (inverse_of-below size mul field V below (product_at-nonzero t l))) in
+      ∙ ap (λ z. mul z (value mul T x y)) (mul_one size mul field u (inverse_of-below size mul field V below (separating_product-nonzero t l))) in
       record {
-        factors = λ k. weight_coefficient a b L (weight_at a b top k);
-        separates = record {
-          symbols = λ k. weight_coefficient_below size mul field a b top L (weight_at a b top k) normal;
-          one_here = sym (value-by_functions size mul field a b top L (xs t) (ys t) curve.coprime normal) ∙ scaled (xs t) (ys t)
-              ∙ field.mul_comm u V ∙ mul-inverse_of size mul field V below (product_at-nonzero t l);
-          zero_there = λ s m d. sym (value-by_functions size mul field a b top L (xs s) (ys s) curve.coprime normal) ∙ scaled (xs s) (ys s)
-              ∙ ap (λ z. mul u z) (product_at-zero t s l m d) ∙ mul-zero size mul field u;
-        };
+        symbols = λ w. weight_coefficient_below size mul field a b top L w normal;
+        values = λ s m.
+            sym (value-by_functions size mul field a b top L (xs s) (ys s) curve.coprime normal) ∙ scaled (xs s) (ys s)
+            ∙ elim (cases_eq s t) [
+              | inl e ↦ ap (λ k. mul u (value mul T (xs k) (ys k))) e ∙ field.mul_comm u V ∙ mul-inverse_of size mul field V below (separating_product-nonzero t l)
+                  ∙ sym (cond-true (eqb s t) 1 0 (eq-eqb s t e))
+              | inr d ↦ ap (λ z. mul u z) (separating_product-zero t s l m d) ∙ mul-zero size mul field u ∙ sym (cond-false (eqb s t) 1 0 (ne_eqb s t d))
+            ];
       }

@@ -1,7 +1,7 @@
 pub mod Semigroup
 pub mod Curve
 pub mod Normal
+pub mod Separation
+pub mod Functions
 pub mod Polynomial
-pub mod Domain
-pub mod CurveDomain
 pub mod Weights

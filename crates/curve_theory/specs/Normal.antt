@@ -1,4 +1,18 @@
--- Normal forms modulo a C_ab equation, as lists of terms whose exponents of y are below a
+-- Normal forms modulo a C_ab equation, as lists of terms whose exponents of y are below a.
+--
+-- function_value        the function of weight w, at a point
+-- weight_coefficient    the sum of the c of the terms of weight w
+-- inverse_of            the inverse of an element
+-- others                the terms of an equation other than y^a
+-- times_monomial        a list of terms times c·x^i·y^j
+-- relation              what y^a is on the curve
+-- times_y               y times a normal form
+-- normal_form           the normal form of x^i·y^j
+-- product_coefficient   the coefficient of a function in the product of two functions
+-- lead_of               the coefficient of the function of the sum of the weights in it
+-- curve_function        function k of a curve, at a point
+-- top_weight            the greatest weight of a function over a field of some size
+-- combined              a combination of the functions, at a point
 use Rattle.std.specs.Prelude.{ℕ, zero, suc, ◌+◌, ◌-◌, ◌*◌, List, [], ◌∷◌, ◌++◌, map, filter, bit_xor, not, cond, eqb, ltb, ◌&&◌}
 use Rattle.curve_theory.specs.Semigroup.{first_below, x_exponent, y_exponent, weight_at, function_count}
 use Rattle.field_theory.specs.Sums.{xor_sum}

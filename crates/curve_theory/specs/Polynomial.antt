@@ -1,4 +1,14 @@
--- Polynomials in x and y, as functions from the exponents of x and y to coefficients, modulo an equation
+-- Polynomials in x and y, as functions from the exponents of x and y to coefficients, modulo an equation.
+--
+-- IsPolynomial         finitely many coefficients are not 0, and all are elements of the field
+-- one                  one term, as a polynomial
+-- shift_x, shift_y     x and y times a polynomial
+-- times_terms          a polynomial times a list of terms
+-- IsSameModulo         two polynomials differ by a multiple of the equation
+-- by_weights           the combination of the normal monomials with coefficients by weight
+-- IsNormalForm         such a combination is the same as a polynomial modulo the equation
+-- HasOneNormalForm     there is exactly one
+-- PolynomialsHaveOneNormalForm    the theorem: over every field, modulo each C_ab equation, each polynomial has one
 use Rattle.std.specs.Prelude.{◌≡◌, ℕ, zero, suc, ◌+◌, ◌-◌, ◌*◌, ◌<◌, ◌≤◌, false, List, [], ◌∷◌, bit_xor, cond, eqb, ltb, leb, ◌&&◌}
 use Rattle.field_theory.specs.Field.{IsField}
 use Rattle.curve_theory.specs.Curve.{Term, IsEquation}
@@ -48,7 +58,7 @@ pub record IsNormalForm (size : ℕ) (mul : ℕ → ℕ → ℕ) (a b : ℕ) (ts
   pub beyond : (w : ℕ) → bound < w → c w ≡ 0
   pub same : IsSameModulo size mul ts p (by_weights a b c)
 
--- the law: over every field, each polynomial has one normal form modulo each C_ab equation
+-- over every field, each polynomial has one normal form modulo each C_ab equation
 pub record HasOneNormalForm (size : ℕ) (mul : ℕ → ℕ → ℕ) (a b : ℕ) (ts : List Term) (p : ℕ → ℕ → ℕ) : Type 0 where
   pub factors : ℕ → ℕ
   pub is_normal_form : IsNormalForm size mul a b ts p factors

@@ -1,4 +1,17 @@
--- The numerical semigroup that a and b generate
+-- The numerical semigroup that a and b generate, and the functions of a curve by rising weight.
+--
+-- first_below       the least number below n that passes a test, or n
+-- IsMember          a number is a sum of a's and b's
+-- y_exponent        the j below a with which w is a·i + b·j, or a where there is none; x_exponent the i
+-- is_member         whether w is a member
+-- is_pair           whether u and w - u are members
+-- pairs             how many ordered pairs of members have the sum w
+-- next_member       the least member above w
+-- at_place          the number with place i among those below n that pass a test
+-- function_count    how many functions there are: one for each member up to top
+-- weight_at         the weight of function i
+-- place_of          the place of the function of weight w
+-- sum_of            the function whose weight is the sum of the weights of i and j, if it is at most top
 use Rattle.std.specs.Prelude.{◌≡◌, ℕ, zero, suc, ◌+◌, ◌-◌, ◌*◌, ◌/◌, ◌%◌, Bool, cond, eqb, ltb, leb, ◌&&◌, Option, Some, None}
 use Rattle.field_theory.specs.Sums.{count_below}
 

@@ -1,4 +1,9 @@
--- Normal forms by weights, computed step by step
+-- Normal forms by weights, computed step by step.
+--
+-- one_by_weights         the normal form of 1
+-- times_x_by_weights     x times a normal form
+-- y_times_function       y times the function of weight v, as terms
+-- times_y_by_weights     y times a normal form
 use Rattle.std.specs.Prelude.{ℕ, suc, ◌-◌, List, [], ◌∷◌, cond, eqb, leb}
 use Rattle.field_theory.specs.Sums.{xor_sum}
 use Rattle.curve_theory.specs.Semigroup.{x_exponent, y_exponent}
