@@ -1,10 +1,10 @@
 -- The two bounds on the vote at one index, and the majority.
-use Rattle.std.proofs.Common.{ℕ, ◌+◌, ◌*◌, ◌≡◌, ◌<◌, ◌≤◌, Bool, true, false, cond, ◌&&◌, not, eqb, ltb, refl, arith, le_trans, eqb-true}
+use Rattle.std.proofs.Common.{ℕ, ◌+◌, ◌*◌, ◌≡◌, ◌<◌, ◌≤◌, ◌∙◌, Bool, true, false, cond, ◌&&◌, not, eqb, ltb, refl, arith, le_trans, eqb-true}
 use Rattle.std.proofs.lemmas.Bool.Decides.{nat_tests}
 use Rattle.field_theory.specs.Sums.{total, one_if, count_pairs}
 use Rattle.counting_theory.specs.Ranks.{IsRank, candidate, right, wrong}
-use Rattle.counting_theory.specs.Votes.{IsSum, pairs, right_votes, wrong_votes, pivots}
-use Rattle.field_theory.proofs.Totals.{total-le-total, total_prefix, total_swap, total_once, total-le-four, count-le-count, count-add}
+use Rattle.counting_theory.specs.Votes.{IsSum, pairs, candidates, right_votes, wrong_votes, pivots}
+use Rattle.field_theory.proofs.Totals.{total_same, total-add, total-le-total, total_prefix, total_swap, total_once, total-le-four, count-le-count, count-add, count_same}
 use Rattle.counting_theory.proofs.Ranks.{row_adds, column_adds, rank_counts}
 
 -- the wrong candidates of all positions are as many as the rank of the whole
@@ -99,3 +99,25 @@ pairs-le {n} {count} {R} {sum_at} k s r hr =
 -- where twice a bound on the rank is below the number of pairs, the right candidates are more than the wrong ones
 pub right_wins : {n count : ℕ} {R sum_at : ℕ → ℕ → ℕ} → IsRank n R → IsSum n count sum_at → (w r : ℕ) → R n n ≤ w → r < count → 2 * w < pairs n sum_at r → wrong_votes n R sum_at r < right_votes n R sum_at r
 right_wins {sum_at = sum_at} k s w r hw hr h = omega (arith, pairs-le k s r hr, pivots-add-wrong k sum_at r)
+
+-- each candidate is right or wrong
+pub candidates_split : (n : ℕ) (R sum_at : ℕ → ℕ → ℕ) (r : ℕ) → candidates n R sum_at r ≡ right_votes n R sum_at r + wrong_votes n R sum_at r
+unfolding candidates right_votes wrong_votes count_pairs right wrong
+candidates_split n R sum_at r =
+    total_same n _ _
+    (λ i l. total_same n _ _ (λ j m. parts (eqb (sum_at i j) r) (candidate R i j) (eqb (R (i + 1) (j + 1)) (R i j)))
+    ∙ total-add n (λ j. one_if (eqb (sum_at i j) r && (candidate R i j && eqb (R (i + 1) (j + 1)) (R i j)))) (λ j. one_if (eqb (sum_at i j) r && (candidate R i j && not (eqb (R (i + 1) (j + 1)) (R i j))))))
+    ∙ total-add n (λ i. total n (λ j. one_if (eqb (sum_at i j) r && (candidate R i j && eqb (R (i + 1) (j + 1)) (R i j))))) (λ i. total n (λ j. one_if (eqb (sum_at i j) r && (candidate R i j && not (eqb (R (i + 1) (j + 1)) (R i j))))))
+  where
+    parts : (a b c : Bool) → one_if (a && b) ≡ one_if (a && (b && c)) + one_if (a && (b && not c))
+    parts a b c = grind arith
+
+-- where all ranks are 0, each pair is a right candidate
+pub right_of_zeros : (n : ℕ) (R sum_at : ℕ → ℕ → ℕ) (r : ℕ) → ((i j : ℕ) → R i j ≡ 0) → right_votes n R sum_at r ≡ pairs n sum_at r
+unfolding right_votes pairs right candidate
+right_of_zeros n R sum_at r z =
+    count_same n (λ i j. eqb (sum_at i j) r && right R i j) (λ i j. eqb (sum_at i j) r)
+    (λ i j l m. all_zero (eqb (sum_at i j) r) (R (i + 1) j) (R i (j + 1)) (R (i + 1) (j + 1)) (R i j) (z (i + 1) j) (z i (j + 1)) (z (i + 1) (j + 1)) (z i j))
+  where
+    all_zero : (t : Bool) (a b c d : ℕ) → a ≡ 0 → b ≡ 0 → c ≡ 0 → d ≡ 0 → one_if (t && ((eqb a d && eqb b d) && eqb c d)) ≡ one_if t
+    all_zero t a b c d e f g h = grind (arith, nat_tests)

@@ -23,3 +23,7 @@ count_before n p i j = total i (λ a. total n (λ b. one_if (p a b))) + total j 
 -- a tally at each value: it counts the votes of the pairs before (i, j)
 pub record IsTallied (n : ℕ) (R sum_at vote : ℕ → ℕ → ℕ) (r : ℕ) (tally : List ℕ) (i j : ℕ) : Type 0 where
   pub at : (v : ℕ) → v < length tally → get_or tally v 0 ≡ count_before n (casts R sum_at vote r v) i j
+
+-- count is the number of candidates of sum r in the rows above i
+pub record IsCounted (n : ℕ) (R sum_at : ℕ → ℕ → ℕ) (r count i : ℕ) : Type 0 where
+  pub above : count ≡ count_before n (λ a b. eqb (sum_at a b) r && candidate R a b) i 0

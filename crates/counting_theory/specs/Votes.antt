@@ -1,7 +1,7 @@
 -- Sums of members, and the counts of the vote at one index.
 use Rattle.std.specs.Prelude.{ℕ, ◌+◌, ◌≡◌, ◌<◌, ◌≤◌, ◌&&◌, eqb, ltb}
 use Rattle.field_theory.specs.Sums.{count_pairs}
-use Rattle.counting_theory.specs.Ranks.{right, wrong}
+use Rattle.counting_theory.specs.Ranks.{candidate, right, wrong}
 
 -- A partial sum of the members below n: `sum_at i j` is an index below count, or a number from count up where
 -- there is no sum. Where there is one, a smaller pair has a smaller one.
@@ -16,6 +16,10 @@ pub record IsFirstSum (n : ℕ) (R sum_at : ℕ → ℕ → ℕ) (r : ℕ) : Typ
 -- the number of pairs whose sum is r
 unfoldable pub pairs : ℕ → (ℕ → ℕ → ℕ) → ℕ → ℕ
 pairs n sum_at r = count_pairs n (λ i j. eqb (sum_at i j) r)
+
+-- the number of candidates whose sum is r
+unfoldable pub candidates : ℕ → (ℕ → ℕ → ℕ) → (ℕ → ℕ → ℕ) → ℕ → ℕ
+candidates n R sum_at r = count_pairs n (λ i j. eqb (sum_at i j) r && candidate R i j)
 
 -- the number of right candidates whose sum is r
 unfoldable pub right_votes : ℕ → (ℕ → ℕ → ℕ) → (ℕ → ℕ → ℕ) → ℕ → ℕ

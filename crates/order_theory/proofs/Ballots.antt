@@ -9,7 +9,7 @@ use Rattle.linear_theory.proofs.Ranks.{xor_front}
 use Rattle.linear_theory.proofs.Corners.{rank_rows, candidate_entry, candidate_value}
 use Rattle.field_theory.specs.Sums.{one_if}
 use Rattle.counting_theory.specs.Ranks.{candidate, right, wrong}
-use Rattle.counting_theory.specs.Votes.{pairs, right_votes, wrong_votes}
+use Rattle.counting_theory.specs.Votes.{pairs, candidates, right_votes, wrong_votes}
 use Rattle.counting_theory.specs.Ballots.{casts, votes_for, IsVoteOn}
 use Rattle.field_theory.proofs.Totals.{count_same}
 use Rattle.counting_theory.proofs.Ranks.{candidate_same}
@@ -53,6 +53,10 @@ wrong_not_right R i j w r =
 cast_same : (e c d t : Bool) → (e ≡ true → c ≡ d) → one_if ((e && c) && t) ≡ one_if ((e && d) && t)
 cast_same true c d t f = ap (λ (x : Bool). one_if (x && t)) (f refl)
 cast_same false c d t f = refl
+
+and_same : (e c d : Bool) → (e ≡ true → c ≡ d) → one_if (e && c) ≡ one_if (e && d)
+and_same true c d f = ap one_if (f refl)
+and_same false c d f = refl
 
 module _ (mul : ℕ → ℕ → ℕ) (b : Basis) (h : IsSound mul b) where
   -- e and w have the same syndromes below k
@@ -159,7 +163,7 @@ module _ (mul : ℕ → ℕ → ℕ) (b : Basis) (h : IsSound mul b) where
       (i j : ℕ) → i < b.n → j < b.n → sum_at b i j ≡ rank_at b k → candidate (ranks_of mul b h w) i j ≡ true →
       (vote i j < 2 ^ b.bits) × (filled w k i j (vote i j) < 2 ^ b.bits) × Keeps w i j (filled w k i j (vote i j))
 
-  votes_on : (e w : ℕ → ℕ) (k : ℕ) → k < b.n → Same e w k → (vote : ℕ → ℕ → ℕ) → Says w k vote → IsVoteOn b.n (ranks_of mul b h e) (sum_at b) vote (rank_at b k) (syn mul b h e k)
+  pub votes_on : (e w : ℕ → ℕ) (k : ℕ) → k < b.n → Same e w k → (vote : ℕ → ℕ → ℕ) → Says w k vote → IsVoteOn b.n (ranks_of mul b h e) (sum_at b) vote (rank_at b k) (syn mul b h e k)
   votes_on e w k lk same vote says = record {
     right_says = λ i j li lj s r. (is i j li lj s (right_candidate (ranks_of mul b h e) i j r)).0 r;
     wrong_says = λ i j li lj s r f. wrong_not_right (ranks_of mul b h e) i j r ((is i j li lj s (wrong_candidate (ranks_of mul b h e) i j r)).1 f);
@@ -171,12 +175,20 @@ module _ (mul : ℕ → ℕ → ℕ) (b : Basis) (h : IsSound mul b) where
           let x : (vote i j < 2 ^ b.bits) × (filled w k i j (vote i j) < 2 ^ b.bits) × Keeps w i j (filled w k i j (vote i j)) = says i j li lj s d in
           vote_is e w k lk same i j li lj s (vote i j) x.0 c x.1 x.2
 
-  votes_same : (e w : ℕ → ℕ) (k : ℕ) → k < b.n → Same e w k → (vote : ℕ → ℕ → ℕ) (v : ℕ) → votes_for b.n (ranks_of mul b h e) (sum_at b) vote (rank_at b k) v ≡ votes_for b.n (ranks_of mul b h w) (sum_at b) vote (rank_at b k) v
+  pub votes_same : (e w : ℕ → ℕ) (k : ℕ) → k < b.n → Same e w k → (vote : ℕ → ℕ → ℕ) (v : ℕ) → votes_for b.n (ranks_of mul b h e) (sum_at b) vote (rank_at b k) v ≡ votes_for b.n (ranks_of mul b h w) (sum_at b) vote (rank_at b k) v
   unfolding votes_for casts
   votes_same e w k lk same vote v =
       count_same b.n (casts (ranks_of mul b h e) (sum_at b) vote (rank_at b k) v) (casts (ranks_of mul b h w) (sum_at b) vote (rank_at b k) v)
       (λ i j li lj.
       cast_same (eqb (sum_at b i j) (rank_at b k)) (candidate (ranks_of mul b h e) i j) (candidate (ranks_of mul b h w) i j) (eqb (vote i j) v)
+      (λ t. candidates_same e w k lk same i j li lj (eqb-true (sum_at b i j) (rank_at b k) t)))
+
+  pub candidates_count_same : (e w : ℕ → ℕ) (k : ℕ) → k < b.n → Same e w k → candidates b.n (ranks_of mul b h e) (sum_at b) (rank_at b k) ≡ candidates b.n (ranks_of mul b h w) (sum_at b) (rank_at b k)
+  unfolding candidates
+  candidates_count_same e w k lk same =
+      count_same b.n (λ i j. eqb (sum_at b i j) (rank_at b k) && candidate (ranks_of mul b h e) i j) (λ i j. eqb (sum_at b i j) (rank_at b k) && candidate (ranks_of mul b h w) i j)
+      (λ i j li lj.
+      and_same (eqb (sum_at b i j) (rank_at b k)) (candidate (ranks_of mul b h e) i j) (candidate (ranks_of mul b h w) i j)
       (λ t. candidates_same e w k lk same i j li lj (eqb-true (sum_at b i j) (rank_at b k) t)))
 
   pub filled_below : (w : ℕ → ℕ) (k i j v : ℕ) → filled w k i j v < 2 ^ b.bits

@@ -15,19 +15,20 @@ use Rattle.linear_theory.proofs.Bases.{rank_reached, rank_greatest}
 use Rattle.linear_theory.proofs.Duals.{dual_combination, dot_comm}
 use Rattle.counting_theory.specs.Ranks.{candidate}
 use Rattle.counting_theory.specs.Votes.{pairs, right_votes, wrong_votes, pivots}
-use Rattle.counting_theory.proofs.Votes.{pairs-le, pivots-add-wrong}
+use Rattle.counting_theory.proofs.Votes.{right_of_zeros, pairs-le, pivots-add-wrong, candidates_split}
+use Rattle.counting_theory.proofs.Ballots.{votes_for_is}
 use Rattle.order_theory.specs.Basis.{Basis, IsSound, IsWord, vector, dual, sum_at, rank_at, pairs_at}
 use Rattle.order_theory.specs.Errors.{weight, syndrome, entry, part_rank}
 use Rattle.order_theory.specs.Codes.{low_bits, marked, IsCodeword, IsBound, list_sum, distance}
 use Rattle.order_theory.specs.Voting.{SameBelow, vote_at, one_below, entry_by}
 use Rattle.order_theory.specs.Course.{IsMoved}
-use Rattle.order_theory.specs.Laws.{RankLaw, GreatestRankLaw, MajorityLaw, DistanceLaw, BoundLaw, RadiusLaw, NearLaw, ErrorLaw, KnownLaw, VoteLaw, VoteOnceLaw, VoteMadeLaw, ElectionLaw, RecoveryLaw, SyndromeLaw, StepLaw, MarkedLaw, VotedLaw, FoundLaw, NearErrorLaw}
+use Rattle.order_theory.specs.Laws.{VotesOn, RankLaw, GreatestRankLaw, MajorityLaw, DistanceLaw, BoundLaw, RadiusLaw, NearLaw, ErrorLaw, KnownLaw, VoteLaw, VoteOnceLaw, VoteMadeLaw, ElectionLaw, CountLaw, NoErrorLaw, RecoveryLaw, SyndromeLaw, StepLaw, MarkedLaw, VotedLaw, FoundLaw, NearErrorLaw}
 use Rattle.order_theory.proofs.Fields.{first_or_none, dot_xor, dot_scale}
 use Rattle.order_theory.proofs.Shape.{word_below, dual_below}
 use Rattle.order_theory.proofs.Known.{syn, entry_before, entry_at_member}
 use Rattle.order_theory.proofs.Weights.{weight-le, list_sum_back, weight_same, weight_zero, weight_is, distance_is, length-list_sum, get_or-list_sum}
 use Rattle.order_theory.proofs.Distances.{entries_below, ranks_of, are_ranks, ranks-le-weight, syn_below, heavy, near_unique}
-use Rattle.order_theory.proofs.Ballots.{filled, filled_below, Keeps, candidates_same, vote_is, vote_exists, vote_once, made_is, elected_is}
+use Rattle.order_theory.proofs.Ballots.{filled, filled_below, Keeps, candidates_same, vote_is, vote_exists, vote_once, made_is, elected_is, votes_on, votes_same, candidates_count_same}
 
 -- a list as a function of the position
 abbrev at : List ℕ → ℕ → ℕ
@@ -160,6 +161,33 @@ election_law mul b e w k v h ew ww lk same l elected =
     let x : (vote_at mul b w k i j < 2 ^ b.bits) × Keeps mul b h (at w) i j (filled mul b h (at w) k i j (vote_at mul b w k i j)) = vote_at-keeps mul b h w k i j lk li lj s c in
     (x.0, filled_below mul b h (at w) k i j (vote_at mul b w k i j), x.1))
     v elected.most
+
+pub count_law : CountLaw
+count_law mul b e w k h ew ww lk same = record {
+  right_ones =
+      sym (votes_same mul b h (at e) (at w) k lk same.each (vote_at mul b w k) (syndrome mul b e k))
+      ∙ votes_for_is
+      (votes_on mul b h (at e) (at w) k lk same.each (vote_at mul b w k)
+      (λ i j li lj s c.
+      let x : (vote_at mul b w k i j < 2 ^ b.bits) × Keeps mul b h (at w) i j (filled mul b h (at w) k i j (vote_at mul b w k i j)) = vote_at-keeps mul b h w k i j lk li lj s c in
+      (x.0, filled_below mul b h (at w) k i j (vote_at mul b w k i j), x.1)));
+  all =
+      sym (candidates_count_same mul b h (at e) (at w) k lk same.each)
+      ∙ candidates_split b.n (part_rank mul b e) (sum_at b) (rank_at b k);
+}
+
+no_ranks : (mul : ℕ → ℕ → ℕ) (b : Basis) (e : List ℕ) → IsSound mul b → IsWord b.bits b.n e → weight e ≡ 0 → (i j : ℕ) → part_rank mul b e i j ≡ 0
+no_ranks mul b e h ew z i j = let l : part_rank mul b e i j ≤ weight e = (rank_law mul b e h ew).at_most_weight i j in omega arith
+
+pub no_error_law : NoErrorLaw
+no_error_law mul b e k h ew z lk =
+    let none : (i j : ℕ) → part_rank mul b e i j ≡ 0 = no_ranks mul b e h ew z in
+    let w : VotesOn mul b e k = majority_law mul b e k h ew lk in
+    let right_is : right_votes b.n (part_rank mul b e) (sum_at b) (rank_at b k) ≡ pairs b.n (sum_at b) (rank_at b k) = right_of_zeros b.n (part_rank mul b e) (sum_at b) (rank_at b k) none in
+    record {
+      right_ones = right_is ∙ sym (h.pairs_counted k lk).counted;
+      wrong_ones = omega (arith, w.weight_bound);
+    }
 
 pub recovery_law : RecoveryLaw
 recovery_law mul b e p h w lp = dual_combination (2 ^ b.bits) mul h.field b.n (vector b) (dual b) (at e) (dual_below mul b h) (word_below w) h.shape.duals_fit p lp

@@ -11,6 +11,8 @@
 -- VoteOnceLaw      each candidate has one vote
 -- VoteMadeLaw      how a vote is made, from the value that keeps the rank
 -- ElectionLaw      the elected value is the syndrome of the error
+-- CountLaw         the syndrome of the error has the votes of its right candidates, and each candidate is right or wrong
+-- NoErrorLaw       where there is no error, each pair is a right candidate
 -- RecoveryLaw      an error is the combination of the dual lists by its syndromes
 -- SyndromeLaw      two errors with the same syndromes are one
 -- StepLaw          a multiple of a dual list changes one syndrome
@@ -20,7 +22,7 @@
 -- NearErrorLaw     a near codeword gives an error, and the error leads back to it
 -- OriginLaw        what ordered functions give of the products and the pairs of a basis that holds their new ones
 -- SoundLaw         so such a basis is sound
--- RanksOf, IsGreatestRank, VotesOn, KnownPart, VotesOnce, NearGives, OriginOf   what these laws give
+-- RanksOf, IsGreatestRank, VotesOn, KnownPart, VotesOnce, VotesCounted, VotesOfNone, NearGives, OriginOf   what these laws give
 use Rattle.std.specs.Prelude.{◌≡◌, ◌≢◌, ℕ, ◌+◌, ◌-◌, ◌*◌, ◌/◌, ◌^◌, ◌<◌, ◌≤◌, ◌↔◌, Bool, true, false, bit_xor, List, length, slice_index}
 use Rattle.linear_theory.specs.Linear.{AreIndependent}
 use Rattle.counting_theory.specs.Votes.{pairs}
@@ -30,7 +32,7 @@ use Rattle.order_theory.specs.Basis.{HasShape, HasLead, IsSpannedBelow, product,
 use Rattle.order_theory.specs.Domains.{IsOrdered, HasMembers}
 use Rattle.order_theory.specs.Errors.{weight, syndrome, entry, part_rank, right_at, wrong_at, pivots_at}
 use Rattle.order_theory.specs.Codes.{low_bits, marked, IsCodeword, IsBound, IsRadius, IsNear, list_sum}
-use Rattle.order_theory.specs.Voting.{SameBelow, IsResidue, IsVote, IsElected, vote_at, dual_sum}
+use Rattle.order_theory.specs.Voting.{SameBelow, IsResidue, IsVote, IsElected, vote_at, votes_at, candidates_at, dual_sum}
 use Rattle.order_theory.specs.Course.{IsErrorOf, IsOnCourse, IsMoved}
 
 -- The ranks of an error are ranks in the sense of the counting theory, and none is above its weight
@@ -130,6 +132,22 @@ ElectionLaw =
     (mul : ℕ → ℕ → ℕ) (b : Basis) (e w : List ℕ) (k v : ℕ) →
     IsSound mul b → IsWord b.bits b.n e → IsWord b.bits b.n w → k < b.n → SameBelow mul b e w k → 2 * weight e < pairs_at b k →
     IsElected mul b w k v → v ≡ syndrome mul b e k
+
+-- The syndrome of the error has the votes of the right candidates, and each candidate is right or wrong
+pub record VotesCounted (mul : ℕ → ℕ → ℕ) (b : Basis) (e w : List ℕ) (k : ℕ) : Type 0 where
+  pub right_ones : votes_at mul b w k (syndrome mul b e k) ≡ right_at mul b e k
+  pub all : candidates_at mul b w k ≡ right_at mul b e k + wrong_at mul b e k
+
+abbrev pub CountLaw : Type 0
+CountLaw = (mul : ℕ → ℕ → ℕ) (b : Basis) (e w : List ℕ) (k : ℕ) → IsSound mul b → IsWord b.bits b.n e → IsWord b.bits b.n w → k < b.n → SameBelow mul b e w k → VotesCounted mul b e w k
+
+-- Where there is no error, all pairs are right candidates
+pub record VotesOfNone (mul : ℕ → ℕ → ℕ) (b : Basis) (e : List ℕ) (k : ℕ) : Type 0 where
+  pub right_ones : right_at mul b e k ≡ pairs_at b k
+  pub wrong_ones : wrong_at mul b e k ≡ 0
+
+abbrev pub NoErrorLaw : Type 0
+NoErrorLaw = (mul : ℕ → ℕ → ℕ) (b : Basis) (e : List ℕ) (k : ℕ) → IsSound mul b → IsWord b.bits b.n e → weight e ≡ 0 → k < b.n → VotesOfNone mul b e k
 
 -- An error is the combination of the dual lists by its syndromes, so two errors with the same syndromes are one
 abbrev pub RecoveryLaw : Type 0
