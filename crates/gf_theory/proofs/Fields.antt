@@ -3,7 +3,7 @@ use Rattle.std.proofs.Common.{◌≡◌, ℕ, ◌^◌, ◌<◌, ◌≤◌, refl,
 use Rattle.std.proofs.lemmas.Nat.{pow_below}
 use Rattle.std.proofs.lemmas.Bool.{cases_eq}
 use Rattle.field_theory.specs.Field.{IsField}
-use Rattle.gf_theory.specs.Field.{gf_mul, gf_rem, rem_steps, reduce, IsIrreducible, HasFactor}
+use Rattle.gf_theory.specs.Field.{gf_mul, gf_rem, rem_steps, reduce, IsIrreducible, HasFactor, IsModulus}
 use Rattle.gf_theory.proofs.Product.{gf_mul-below, gf_mul_comm, gf_mul_assoc, gf_mul-xor_right, gf_mul-one_left}
 use Rattle.gf_theory.proofs.Inverse.{gf_inverse}
 use Rattle.gf_theory.proofs.Factors.{irreducible_from_factors}
@@ -43,5 +43,8 @@ no_factor i l u f = at_one (subst (λ (k : ℕ). HasFactor k 7) (let e : i ≡ 1
               let z : gf_rem 1 3 7 ≡ 0 = ap (λ (k : ℕ). gf_rem 1 k 7) (sym e) ∙ f.divides in absurd (omega (arith, rem_three))
         ]
 
+pub four_modulus : IsModulus 2 7
+four_modulus = record { at_least_two = omega arith; at_most_eight = omega arith; irreducible = irreducible_from_factors 2 7 (omega arith) (omega arith) no_factor }
+
 pub four_field : IsField (2 ^ 2) (gf_mul 2 7)
-four_field = field_of_modulus 2 7 (omega arith) (irreducible_from_factors 2 7 (omega arith) (omega arith) no_factor)
+four_field = field_of_modulus 2 7 (omega arith) four_modulus.irreducible
