@@ -1,39 +1,51 @@
-//! The fields GF(2^m) for m from 2 to 8. An element is a number below 2^m, whose bits are the coefficients of a
-//! polynomial over GF(2).
+//! Finite fields as code: the trait `Field`, and `PolyField`, which meets it for each modulus. An element is a number below
+//! 2^m, m from 2 to 8, whose bits are the coefficients of a polynomial over GF(2). Start at the trait.
 #![tactic(auto)]
 
 mod polynomial;
 
 ghost use Rattle.std.specs.Prelude.{◌≡◌, ℕ, ◌<◌, ◌≤◌, ◌^◌, ◌≢◌, bit_xor, MatchOption};
+ghost use Rattle.field_theory.specs.Field.{IsField};
 ghost use Rattle.gf_theory.specs.Field.{gf_mul, IsModulus};
+ghost use Rattle.gf_theory.specs.Laws.{SumLaws, ProductLaws, FieldLaws};
 
+use gf_theory::{irreducible_gives_field, polynomials_are_a_ring, product_is_unique};
 use polynomial::{is_irreducible, product};
 
-/// A field of characteristic 2, given by its number of bits and its modulus.
+/// A finite field of characteristic 2, given by its bits m and its modulus p: the numbers below 2^m, with the exclusive or
+/// as sum and the product modulo p.
+///
+/// The modulus is irreducible of degree m (`is_modulus`), which a caller has by a call of `bits`; `field_axioms` states
+/// what follows. No call takes memory.
 pub trait Field: Drop {
     ghost bits_of: { Self → ℕ };
 
     ghost modulus_of: { Self → ℕ };
 
+    /// The bits m of an element, 2 to 8.
     fn bits(&self) -> u32
         ensures bits { result ≡ bits_of self.now }
         ensures field { IsModulus (bits_of self.now) (modulus_of self.now) };
 
+    /// The modulus as a number: bit i is the coefficient of X^i.
     fn modulus(&self) -> u32
         ensures { result ≡ modulus_of self.now };
 
+    /// The sum, and the difference, of two elements.
     fn add(&self, x: u8, y: u8) -> u8
         requires left { x < 2 ^ bits_of self.now }
         requires right { y < 2 ^ bits_of self.now }
         ensures sum { result ≡ bit_xor x y }
         ensures element { result < 2 ^ bits_of self.now };
 
+    /// The product of two elements.
     fn mul(&self, x: u8, y: u8) -> u8
         requires left { x < 2 ^ bits_of self.now }
         requires right { y < 2 ^ bits_of self.now }
         ensures product { result ≡ gf_mul (bits_of self.now) (modulus_of self.now) x y }
         ensures element { result < 2 ^ bits_of self.now };
 
+    /// The element whose product with x is 1.
     fn inv(&self, x: u8) -> u8
         requires element { x < 2 ^ bits_of self.now }
         requires nonzero { 0 < x }
@@ -41,6 +53,19 @@ pub trait Field: Drop {
         ensures result_element { result < 2 ^ bits_of self.now };
 
     ghost is_modulus: { (f : Self) → IsModulus (bits_of f) (modulus_of f) };
+}
+
+/// The axioms of a field hold of each `Field`: the contract is the theorem.
+pub fn field_axioms<F: Field>(f: &F)
+    ensures sums { SumLaws }
+    ensures products { ProductLaws (F.bits_of f.now) (F.modulus_of f.now) }
+    ensures axioms { FieldLaws (F.bits_of f.now) (F.modulus_of f.now) }
+    ensures is_field { IsField (2 ^ F.bits_of f.now) (gf_mul (F.bits_of f.now) (F.modulus_of f.now)) }
+{
+    f.bits();
+    polynomials_are_a_ring();
+    product_is_unique();
+    irreducible_gives_field();
 }
 
 /// The field of the polynomials modulo an irreducible one. It multiplies bit by bit.
@@ -123,5 +148,15 @@ mod tests {
     fn multiplies_in_the_field_of_sixteen(rt: HostRuntime) {
         let f = PolyField::new(4, 19).expect(&rt, "irreducible");
         assert_eq!(rt; f.mul(2, 9), 1);
+        field_axioms(&f);
+    }
+
+    #[test]
+    fn multiplies_in_the_field_of_four(rt: HostRuntime) {
+        let f = PolyField::new(2, 7).expect(&rt, "irreducible");
+        assert_eq!(rt; f.mul(2, 2), 3);
+        assert_eq!(rt; f.mul(2, 3), 1);
+        assert_eq!(rt; f.mul(3, 3), 2);
+        assert_eq!(rt; f.inv(2), 3);
     }
 }

@@ -1,5 +1,6 @@
--- The fields of gf_theory are fields of linear_theory
+-- What callers of a field cite: the product modulo p makes a field, and what a modulus says of elements.
 use Rattle.std.proofs.Common.{◌≡◌, ℕ, ◌^◌, ◌<◌, ◌≤◌, refl, sym, ◌∙◌, ap, subst, inl, inr, arith}
+use Rattle.std.proofs.Math.Nat.{pow-le-pow_right}
 use Rattle.std.proofs.lemmas.Nat.{pow_below}
 use Rattle.std.proofs.lemmas.Bool.{cases_eq}
 use Rattle.field_theory.specs.Field.{IsField}
@@ -20,6 +21,16 @@ field_of_modulus m p l h = record {
   one_mul = gf_mul-one_left m p;
   inverse = λ x lx d. gf_inverse m p x h (omega arith) lx;
 }
+
+-- of each `Field`: its `bits()` ensures the premise
+pub field_of_bits : (m p : ℕ) → IsModulus m p → IsField (2 ^ m) (gf_mul m p)
+field_of_bits m p h = let l : 2 ≤ m = h.at_least_two in field_of_modulus m p (omega arith) h.irreducible
+
+-- an element is a byte
+pub elements_are_bytes : (m : ℕ) → m ≤ 8 → 2 ^ m ≤ 256
+elements_are_bytes m h = let w : 2 ^ m ≤ 2 ^ 8 = pow-le-pow_right (omega arith) h in w
+
+-- ---- the field of four elements: X² + X + 1 is irreducible
 
 rem_two : gf_rem 1 2 7 ≡ 1
 unfolding gf_rem rem_steps reduce

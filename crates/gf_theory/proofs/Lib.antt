@@ -2,6 +2,7 @@ pub mod Xor
 pub mod Clmul
 pub mod Degree
 pub mod Remainder
+pub mod Division
 pub mod Product
 pub mod Inverse
 pub mod Steps
