@@ -1,0 +1,11 @@
+use Rattle.stored_form.proofs.Theorems.{frame_law, fill_law, group_law}
+use Rattle.stored_form.proofs.framing.Goals as goal
+
+pub returns-clause-frame : goal.returns-clause-frame
+returns-clause-frame c = frame_law
+
+pub returns-clause-fill : goal.returns-clause-fill
+returns-clause-fill c = fill_law
+
+pub returns-clause-group : goal.returns-clause-group
+returns-clause-group c = group_law
