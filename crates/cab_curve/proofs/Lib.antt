@@ -1,0 +1,4 @@
+pub mod Least
+pub mod Powers
+pub mod Rows
+pub mod Accepted

@@ -1,0 +1,3 @@
+pub mod First
+pub mod Equation
+pub mod Points
