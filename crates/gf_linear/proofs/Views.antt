@@ -1,9 +1,14 @@
 -- What a matrix shows of the list that it stores
-use Rattle.std.proofs.Common.{◌≡◌, ℕ, ◌+◌, ◌*◌, ◌-◌, ◌<◌, ◌≤◌, List, [], length, take, drop, get_or, replicate, sym, ◌∙◌, ap, subst, refl, arith}
+use Rattle.std.proofs.Common.{◌≡◌, ℕ, ◌+◌, ◌*◌, ◌/◌, ◌%◌, ◌^◌, ◌<◌, ◌≤◌, List, [], length, take, drop, get_or, replicate, sym, ◌∙◌, ap, subst, inl, inr, arith, All}
 use Rattle.std.proofs.Math.ListN.{set}
+use Rattle.std.proofs.lemmas.Bool.{cases_eq, cases_lt}
+use Rattle.std.proofs.lemmas.List.{get_or_default, get_or_past}
+use Rattle.std.proofs.lemmas.Nat.{div-add-mod', div_below, mod_below, pow_pos}
 use borrow.Rule.Slice.PartMut.{put_mid}
-use Rattle.linear_theory.proofs.Tables.{length-rows_of, row-rows_of, length-row, rows_of-set, rows_of-replicate, rows_of-put_mid, place_below, row_end}
-use Rattle.gf_linear.specs.Matrix.{Matrix, IsMatrix, row, zero_matrix, with_row, with_entry, matrix_of}
+use Rattle.linear_theory.proofs.Tables.{length-rows_of, row-rows_of, entry-rows_of, length-row, rows_of-set, rows_of-replicate, rows_of-put_mid, place_below, row_end}
+use Rattle.linear_theory.proofs.Entries.{AreSame}
+use Rattle.gf_linear.specs.Cells.{cell}
+use Rattle.gf_linear.specs.Matrix.{Matrix, IsMatrix, IsOver, row, entry, zero_matrix, with_row, with_entry, matrix_of}
 
 pub view-new : (rows cols : ℕ) (m : List ℕ) → m ≡ replicate (rows * cols) 0 → matrix_of rows cols m ≡ zero_matrix rows cols
 view-new rows cols m e = ap (λ w. matrix_of rows cols w) e ∙ ap (λ w. record { cols = cols; rows = w }) (rows_of-replicate rows cols 0)
@@ -43,3 +48,40 @@ module _ (rows cols : ℕ) (m : List ℕ) (v : Matrix) (view : matrix_of rows co
       ap (λ (n : ℕ). matrix_of rows cols (put_mid (i * cols) n m ys)) e
       ∙ ap (λ w. record { cols = cols; rows = w }) (rows_of-put_mid rows cols m i ys (subst (λ (n : ℕ). i < n) (sym view-rows) li) lm (ly ∙ sym view-cols))
       ∙ ap (λ w. with_row w i ys) view
+
+  -- what is said of the numbers of rows and of columns
+  pub view-sizes : (P : ℕ → ℕ → Type 0) → P cols rows → P v.cols (length v.rows)
+  view-sizes P h = subst (λ (r : ℕ). P v.cols r) view-rows (subst (λ (n : ℕ). P n rows) view-cols h)
+
+  pub view-entry : (i j : ℕ) → i < rows → j < cols → cell m cols i j ≡ entry v i j
+  view-entry i j li lj = sym (entry-rows_of rows cols m i j li lj) ∙ ap (λ w. entry w i j) view
+
+  pub view-same : AreSame cols rows (cell m cols) (entry v)
+  view-same i li j lj = view-entry i j li lj
+
+  pub view-symbols : (b : ℕ) → IsOver b v → length m ≡ rows * cols → All (λ a. a < 2 ^ b) m
+  view-symbols b h e n d l = elim (cases_eq cols 0) [
+    | inl z ↦ absurd (let w : rows * cols ≡ 0 = ap (λ (x : ℕ). rows * x) z ∙ (let y : rows * 0 ≡ 0 = omega arith in y) in omega arith)
+    | inr s ↦
+        let place : n / cols * cols + n % cols ≡ n = div-add-mod' n cols in
+        let low : n / cols < rows = div_below n cols rows (omega arith) (omega arith) in
+        let rest : n % cols < cols = mod_below n cols (omega arith) in
+        let at : get_or m n d ≡ entry v (n / cols) (n % cols) =
+        get_or_default m n d 0 l ∙ ap (λ (p : ℕ). get_or m p 0) (sym place) ∙ view-entry (n / cols) (n % cols) low rest in
+        subst (λ (x : ℕ). x < 2 ^ b) (sym at) (h.below (n / cols) (n % cols))
+  ]
+
+  pub view-over : (b : ℕ) → All (λ a. a < 2 ^ b) m → length m ≡ rows * cols → IsOver b v
+  view-over b h e = record {
+    below = λ i j. elim (cases_lt i (length v.rows)) [
+      | inr u ↦ subst (λ (w : List ℕ). get_or w j 0 < 2 ^ b) (sym (get_or_past v.rows i [] u)) (pow_pos b)
+      | inl u ↦
+          let li : i < rows = subst (λ (n : ℕ). i < n) (sym view-rows) u in
+          elim (cases_lt j cols) [
+            | inl w ↦ subst (λ (x : ℕ). x < 2 ^ b) (view-entry i j li w) (h (i * cols + j) 0 (place_below rows cols i j (length m) li w e))
+            | inr w ↦
+                let long : length (row v i) ≡ cols = ap (λ (z : Matrix). length (row z i)) (sym view) ∙ length-row rows cols m i [] (omega arith) li in
+                subst (λ (x : ℕ). x < 2 ^ b) (sym (get_or_past (row v i) j 0 (omega arith))) (pow_pos b)
+          ]
+    ];
+  }

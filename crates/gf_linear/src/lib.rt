@@ -2,8 +2,12 @@
 //! `Matrix` is the type; the functions take a field that meets `Field`.
 #![tactic(auto)]
 
+mod elimination;
 mod lists;
 mod matrix;
+mod ranks;
+mod rows;
 
 pub use lists::{add_scaled, dot};
 pub use matrix::Matrix;
+pub use ranks::{echelon, rank};

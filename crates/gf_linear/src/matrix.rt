@@ -7,9 +7,9 @@ use std::marker::Model;
 /// A matrix of bytes, stored row by row.
 #[derive(Drop)]
 pub struct Matrix {
-    rows: u32,
-    cols: u32,
-    entries: Vec<u8>,
+    pub(crate) rows: u32,
+    pub(crate) cols: u32,
+    pub(crate) entries: Vec<u8>,
 }
 
 impl Model for Matrix {

@@ -12,3 +12,5 @@ pub mod Solving
 pub mod Completion
 pub mod Ordered
 pub mod Tables
+pub mod Entries
+pub mod Free

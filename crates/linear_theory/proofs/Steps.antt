@@ -66,6 +66,24 @@ module _ (size : ℕ) (mul : ℕ → ℕ → ℕ) (field : IsField size mul) whe
         ];
       }
 
+  -- a multiple of row k is added to each other row
+  pub span_after_sweep : (n : ℕ) (rows others : ℕ → ℕ → ℕ) (r k : ℕ) (x : ℕ → ℕ) → ((i j : ℕ) → rows i j < size) → ((i j : ℕ) → others i j < size) → k < r
+      → ((q : ℕ) → q < r → q ≢ k → (j : ℕ) → j < n → others q j ≡ bit_xor (rows q j) (mul (x q) (rows k j))) → ((j : ℕ) → j < n → others k j ≡ rows k j) → SameSpan mul n rows r others r
+  span_after_sweep n rows others r k x b c lk new old =
+      let kept : IsCombination mul n others r (rows k) = combination_same size mul field (rows k) (combination_row size mul field n others r c k lk) old in
+      record {
+        forth = λ q l. elim (cases_eq q k) [
+          | inl e ↦ subst (λ (m : ℕ). IsCombination mul n others r (rows m)) (sym e) kept
+          | inr d ↦ combination_front size mul field (rows q) (λ j. mul (x q) (rows k j)) (combination_scale size mul field (x q) kept)
+              (combination_same size mul field (λ j. bit_xor (rows q j) (mul (x q) (rows k j))) (combination_row size mul field n others r c q l) (new q l d))
+        ];
+        back = λ q l. elim (cases_eq q k) [
+          | inl e ↦ subst (λ (m : ℕ). IsCombination mul n rows r (others m)) (sym e)
+              (combination_same size mul field (others k) (combination_row size mul field n rows r b k lk) (λ j m. sym (old j m)))
+          | inr d ↦ combination_same size mul field (others q) (combination_xor size mul field (combination_row size mul field n rows r b q l) (combination_scale size mul field (x q) (combination_row size mul field n rows r b k lk))) (λ j m. sym (new q l d j m))
+        ];
+      }
+
   -- the rows after are the rows before in another order, or some of them again: each is one of the others
   pub span_after_moves : (n : ℕ) (rows others : ℕ → ℕ → ℕ) (r : ℕ) → ((i j : ℕ) → rows i j < size) → ((i j : ℕ) → others i j < size)
       → ((q : ℕ) → q < r → (p : ℕ) × (p < r) × ((j : ℕ) → j < n → rows p j ≡ others q j)) → ((q : ℕ) → q < r → (p : ℕ) × (p < r) × ((j : ℕ) → j < n → others p j ≡ rows q j)) → SameSpan mul n rows r others r

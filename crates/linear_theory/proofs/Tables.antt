@@ -1,10 +1,11 @@
 -- The rows of a flat list: how many there are, how long they are, where their entries stand, and what a write leaves
-use Rattle.std.proofs.Common.{◌≡◌, ℕ, zero, suc, ◌+◌, ◌*◌, ◌-◌, ◌<◌, ◌≤◌, List, [], ◌∷◌, ◌++◌, length, take, drop, get_or, replicate, sym, ◌∙◌, ap, refl, arith}
+use Rattle.std.proofs.Common.{◌≡◌, ◌≢◌, ℕ, zero, suc, ◌+◌, ◌*◌, ◌-◌, ◌<◌, ◌≤◌, List, [], ◌∷◌, ◌++◌, length, take, drop, get_or, replicate, sym, ◌∙◌, ap, subst, refl, inl, inr, arith, All}
 use Rattle.std.proofs.Math.Nat.{suc-mul, mul-le-mul_right}
 use Rattle.std.proofs.Math.ListN.{set}
 use Rattle.std.proofs.Math.Seq.{take-set-lt}
-use Rattle.std.proofs.lemmas.List.{drop-drop, get_or-take, get_or-drop, length-append, length-take-le, length-drop, take-set-le, drop-set-lt, drop-set-add, take_at, drop_at, take-replicate, drop-replicate, drop-append-le, drop-take}
+use Rattle.std.proofs.lemmas.List.{drop-drop, get_or-take, get_or-drop, get_or_append_left, get_or-append_right, length-append, length-take-le, length-drop, take-set-le, drop-set-lt, drop-set-add, take_at, drop_at, take-replicate, drop-replicate, drop-append-le, drop-take}
 use Rattle.std.proofs.lemmas.Nat.{row_fits, mul-add-lt}
+use Rattle.std.proofs.lemmas.Bool.{cases_lt}
 use Rattle.std.proofs.lemmas.Slice.{take-put_mid_below}
 use borrow.Rule.Slice.PartMut.{put_mid}
 use Rattle.linear_theory.specs.Tables.{rows_of}
@@ -102,3 +103,44 @@ rows_of-put_mid (suc r) cols m (suc i) ys li lm ly =
 pub length-put_mid : (a k : ℕ) (xs ys : List ℕ) → a + k ≤ length xs → length ys ≡ k → length (put_mid a k xs ys) ≡ length xs
 length-put_mid a k xs ys l e =
     rw (length-append, length-append, length-drop, length-drop, length-take-le a xs (let h : a ≤ length xs = omega arith in h)) (omega arith)
+
+-- ---- a part of a list is written: its entries before, within and after that part
+pub put_mid-before : (a k : ℕ) (xs ys : List ℕ) (p d : ℕ) → p < a → a ≤ length xs → get_or (put_mid a k xs ys) p d ≡ get_or xs p d
+put_mid-before a k xs ys p d l h =
+    get_or_append_left (take a xs) (ys ++ drop k (drop a xs)) d p (rw (length-take-le a xs h) l) ∙ get_or-take a xs p d l
+
+pub put_mid-within : (a k : ℕ) (xs ys : List ℕ) (p d : ℕ) → p < k → a ≤ length xs → length ys ≡ k → get_or (put_mid a k xs ys) (a + p) d ≡ get_or ys p d
+put_mid-within a k xs ys p d l h e =
+    get_or-append_right (take a xs) (ys ++ drop k (drop a xs)) a (a + p) d (length-take-le a xs h) (omega arith)
+    ∙ ap (λ n. get_or (ys ++ drop k (drop a xs)) n d) (let w : a + p - a ≡ p = omega arith in w)
+    ∙ get_or_append_left ys (drop k (drop a xs)) d p (omega arith)
+
+pub put_mid-after : (a k : ℕ) (xs ys : List ℕ) (p d : ℕ) → a + k ≤ p → a ≤ length xs → length ys ≡ k → get_or (put_mid a k xs ys) p d ≡ get_or xs p d
+put_mid-after a k xs ys p d l h e =
+    get_or-append_right (take a xs) (ys ++ drop k (drop a xs)) a p d (length-take-le a xs h) (omega arith)
+    ∙ get_or-append_right ys (drop k (drop a xs)) k (p - a) d e (omega arith)
+    ∙ get_or-drop k (drop a xs) (p - a - k) d ∙ get_or-drop a xs (k + (p - a - k)) d
+    ∙ ap (λ n. get_or xs n d) (let w : a + (k + (p - a - k)) ≡ p = omega arith in w)
+
+-- row q is written
+pub put_row-same : (cols q : ℕ) (xs ys : List ℕ) (p : ℕ) → p < cols → q * cols ≤ length xs → length ys ≡ cols → get_or (put_mid (q * cols) cols xs ys) (q * cols + p) 0 ≡ get_or ys p 0
+put_row-same cols q xs ys p l h e = put_mid-within (q * cols) cols xs ys p 0 l h e
+
+pub put_row-other : (cols q : ℕ) (xs ys : List ℕ) (i p : ℕ) → p < cols → i ≢ q → q * cols ≤ length xs → length ys ≡ cols → get_or (put_mid (q * cols) cols xs ys) (i * cols + p) 0 ≡ get_or xs (i * cols + p) 0
+put_row-other cols q xs ys i p l d h e = elim (cases_lt i q) [
+  | inl u ↦ put_mid-before (q * cols) cols xs ys (i * cols + p) 0 (let w : i * cols + cols ≤ q * cols = row_end q cols i (q * cols) u refl in omega arith) h
+  | inr u ↦ put_mid-after (q * cols) cols xs ys (i * cols + p) 0 (let w : q * cols + cols ≤ i * cols = row_end i cols q (i * cols) (omega arith) refl in omega arith) h e
+]
+
+pub All-put_mid : (P : ℕ → Type 0) (a k : ℕ) (xs ys : List ℕ) → All P xs → All P ys → a + k ≤ length xs → length ys ≡ k → All P (put_mid a k xs ys)
+All-put_mid P a k xs ys hx hy l e n d b =
+    let len : n < length xs = subst (λ (m : ℕ). n < m) (length-put_mid a k xs ys l e) b in
+    elim (cases_lt n a) [
+      | inl u ↦ subst P (sym (put_mid-before a k xs ys n d u (omega arith))) (hx n d len)
+      | inr u ↦ elim (cases_lt n (a + k)) [
+        | inl v ↦
+            let w : a + (n - a) ≡ n = omega arith in
+            subst (λ (m : ℕ). P (get_or (put_mid a k xs ys) m d)) w (subst P (sym (put_mid-within a k xs ys (n - a) d (omega arith) (omega arith) e)) (hy (n - a) d (omega arith)))
+        | inr v ↦ subst P (sym (put_mid-after a k xs ys n d v (omega arith) e)) (hx n d len)
+      ]
+    ]

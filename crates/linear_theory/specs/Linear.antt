@@ -88,3 +88,23 @@ pub record IsOrderedBasis (size : ℕ) (mul : ℕ → ℕ → ℕ) (n : ℕ) (ro
   pub fresh : (t : ℕ) → t < k → IsCombination mul n rows (picks t) (rows (picks t)) → ⊥
   pub found : (i : ℕ) → i < r → (IsCombination mul n rows i (rows i) → ⊥) → (rank size mul n rows i < k) × (picks (rank size mul n rows i) ≡ i)
   pub spans : (i q : ℕ) → i ≤ r → q < i → IsCombination mul n (λ t. rows (picks t)) (rank size mul n rows i) (rows q)
+
+-- k is the greatest number of independent rows among the rows below r: some k of them are independent, and no more are
+pub record IsGreatestNumber (size : ℕ) (mul : ℕ → ℕ → ℕ) (n : ℕ) (rows : ℕ → ℕ → ℕ) (r : ℕ) (k : ℕ) : Type 0 where
+  pub picks : ℕ → ℕ
+  pub within : (t : ℕ) → t < k → picks t < r
+  pub independent : AreIndependent size mul n (λ t. rows (picks t)) k
+  pub greatest : (others : ℕ → ℕ) (s : ℕ) → ((t : ℕ) → t < s → others t < r) → AreIndependent size mul n (λ t. rows (others t)) s → s ≤ k
+
+-- column j adds nothing to the rank of the columns before it: the reduced form has no pivot there
+pub record IsFree (size : ℕ) (mul : ℕ → ℕ → ℕ) (rows : ℕ → ℕ → ℕ) (r : ℕ) (j : ℕ) : Type 0 where
+  pub adds_nothing : rank size mul (suc j) rows r ≡ rank size mul j rows r
+
+-- neither row i nor column j adds to the rank of what is before it
+pub record IsCandidate (size : ℕ) (mul : ℕ → ℕ → ℕ) (rows : ℕ → ℕ → ℕ) (i j : ℕ) : Type 0 where
+  pub row : rank size mul j rows (suc i) ≡ rank size mul j rows i
+  pub column : rank size mul (suc j) rows i ≡ rank size mul j rows i
+
+-- with x at (i, j) the rank up to row i and column j is that of what is before them
+pub record KeepsRank (size : ℕ) (mul : ℕ → ℕ → ℕ) (rows : ℕ → ℕ → ℕ) (i j x : ℕ) : Type 0 where
+  pub rank_is : rank size mul (suc j) (put_entry rows i j x) (suc i) ≡ rank size mul j rows i

@@ -1,0 +1,46 @@
+-- What the elimination of a matrix finds, in the words of contracts
+use Rattle.std.proofs.Common.{◌≡◌, ℕ, ◌*◌, ◌^◌, ◌<◌, List, length, sym, ◌∙◌, ap, subst, refl, All}
+use Rattle.field_theory.specs.Field.{IsField}
+use Rattle.gf_theory.specs.Field.{gf_mul, IsModulus}
+use Rattle.gf_theory.proofs.Fields.{field_of_bits}
+use Rattle.linear_theory.specs.Linear.{IsReduced, SameSpan, IsGreatestNumber, rank}
+use Rattle.linear_theory.proofs.Corners.{rank_rows}
+use Rattle.linear_theory.proofs.Entries.{AreSame, reduced_entries, span_entries, greatest_of_rank}
+use Rattle.linear_theory.proofs.Reduced.{reduced_rank}
+use Rattle.linear_theory.proofs.Steps.{span_rank}
+use Rattle.gf_linear.specs.Cells.{cell}
+use Rattle.gf_linear.specs.Matrix.{Matrix, entry, matrix_of, IsOver}
+use Rattle.gf_linear.specs.Elimination.{IsEchelonOf}
+use Rattle.gf_linear.proofs.Forms.{cells_below}
+use Rattle.gf_linear.proofs.Views.{view-same, view-sizes, view-cols, view-rows, view-over}
+
+module _ (b md rows cols : ℕ) (xs : List ℕ) (v : Matrix) (view : matrix_of rows cols xs ≡ v) (h : IsModulus b md) where
+  field : IsField (2 ^ b) (gf_mul b md)
+  field = field_of_bits b md h
+
+  pub echelon_found : (k : ℕ) (ys : List ℕ) → length ys ≡ rows * cols → All (λ a. a < 2 ^ b) ys → IsReduced cols (cell ys cols) rows k → SameSpan (gf_mul b md) cols (cell xs cols) rows (cell ys cols) rows
+      → IsEchelonOf b md v (matrix_of rows cols ys)
+  echelon_found k ys ly sy reduced span =
+      let e : Matrix = matrix_of rows cols ys in
+      let same : AreSame cols rows (cell ys cols) (entry e) = view-same rows cols ys e refl in
+      record {
+        same_cols = view-cols rows cols xs v view;
+        same_rows = sym (view-rows rows cols ys e refl) ∙ view-rows rows cols xs v view;
+        count = k;
+        reduced = view-sizes rows cols xs v view (λ n r. IsReduced n (entry e) r k) (reduced_entries (entry e) same reduced);
+        span = view-sizes rows cols xs v view (λ n r. SameSpan (gf_mul b md) n (entry v) r (entry e) r)
+            (span_entries (2 ^ b) (gf_mul b md) field (entry v) (entry e) (view-same rows cols xs v view) same span);
+        over = view-over rows cols ys e refl b sy ly;
+      }
+
+  pub rank_found : (k : ℕ) (ys : List ℕ) → All (λ a. a < 2 ^ b) xs → All (λ a. a < 2 ^ b) ys → IsReduced cols (cell ys cols) rows k → SameSpan (gf_mul b md) cols (cell xs cols) rows (cell ys cols) rows
+      → k ≡ rank (2 ^ b) (gf_mul b md) v.cols (entry v) (length v.rows)
+  rank_found k ys sx sy reduced span =
+      view-sizes rows cols xs v view (λ n r. k ≡ rank (2 ^ b) (gf_mul b md) n (entry v) r)
+      (sym (reduced_rank (2 ^ b) (gf_mul b md) field cols (cell ys cols) rows k reduced)
+      ∙ sym (span_rank (2 ^ b) (gf_mul b md) field (cells_below b xs cols sx) (cells_below b ys cols sy) span)
+      ∙ rank_rows (2 ^ b) (gf_mul b md) field cols (cell xs cols) (entry v) rows (view-same rows cols xs v view))
+
+  pub greatest_found : (k : ℕ) → IsOver b v → k ≡ rank (2 ^ b) (gf_mul b md) v.cols (entry v) (length v.rows) → IsGreatestNumber (2 ^ b) (gf_mul b md) v.cols (entry v) (length v.rows) k
+  greatest_found k over e =
+      subst (λ (x : ℕ). IsGreatestNumber (2 ^ b) (gf_mul b md) v.cols (entry v) (length v.rows) x) (sym e) (greatest_of_rank (2 ^ b) (gf_mul b md) field v.cols (entry v) (length v.rows) over.below)

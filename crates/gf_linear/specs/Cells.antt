@@ -1,0 +1,9 @@
+-- cell       the entry at row i, column j of a matrix that is stored row by row in one list
+-- AreKept    the rows for which P holds are the same in both matrices
+use Rattle.std.specs.Prelude.{ℕ, ◌≡◌, ◌+◌, ◌*◌, ◌<◌, List, slice_index}
+
+abbrev pub cell : List ℕ → ℕ → ℕ → ℕ → ℕ
+cell m cols i j = slice_index m (i * cols + j)
+
+pub record AreKept (rows cols : ℕ) (P : ℕ → Type 0) (m after : List ℕ) : Type 0 where
+  pub same : (q : ℕ) → q < rows → P q → (p : ℕ) → p < cols → cell after cols q p ≡ cell m cols q p
