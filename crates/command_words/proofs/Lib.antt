@@ -1,0 +1,4 @@
+pub mod NumeralLemmas
+pub mod NameLemmas
+pub mod SettingLemmas
+pub mod LineLemmas

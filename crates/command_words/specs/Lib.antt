@@ -1,0 +1,5 @@
+pub mod Numerals
+pub mod Options
+pub mod Reading
+pub mod Lines
+pub mod Laws
