@@ -2,3 +2,4 @@ pub mod Views
 pub mod Steps
 pub mod Forms
 pub mod Found
+mod BitPasses

@@ -8,6 +8,7 @@ pub mod Inverse
 pub mod Steps
 pub mod Factors
 pub mod Laws
+pub mod Bits
 mod Examples
 pub mod Powers
 pub mod Fields
