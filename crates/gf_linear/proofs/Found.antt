@@ -1,16 +1,16 @@
 -- What the elimination of a matrix finds, in the words of contracts
-use Rattle.std.proofs.Common.{◌≡◌, ℕ, ◌*◌, ◌^◌, ◌<◌, List, length, sym, ◌∙◌, ap, subst, refl, All}
+use Rattle.std.proofs.Common.{◌≡◌, ℕ, ◌*◌, ◌^◌, ◌<◌, List, length, sym, ◌∙◌, ap, subst, refl, arith, All}
 use Rattle.field_theory.specs.Field.{IsField}
 use Rattle.gf_theory.specs.Field.{gf_mul, IsModulus}
 use Rattle.gf_theory.proofs.Fields.{field_of_bits}
-use Rattle.linear_theory.specs.Linear.{IsReduced, SameSpan, IsGreatestNumber, rank}
+use Rattle.linear_theory.specs.Linear.{AreIndependent, IsDual, IsReduced, SameSpan, IsGreatestNumber, rank}
 use Rattle.linear_theory.proofs.Corners.{rank_rows}
-use Rattle.linear_theory.proofs.Entries.{AreSame, reduced_entries, span_entries, greatest_of_rank}
+use Rattle.linear_theory.proofs.Entries.{AreSame, dual_entries, independent_entries, reduced_entries, span_entries, greatest_of_rank}
 use Rattle.linear_theory.proofs.Reduced.{reduced_rank}
 use Rattle.linear_theory.proofs.Steps.{span_rank}
 use Rattle.gf_linear.specs.Cells.{cell}
 use Rattle.gf_linear.specs.Matrix.{Matrix, entry, matrix_of, IsOver}
-use Rattle.gf_linear.specs.Elimination.{IsEchelonOf}
+use Rattle.gf_linear.specs.Elimination.{IsEchelonOf, IsDualOf, AreDependent}
 use Rattle.gf_linear.proofs.Forms.{cells_below}
 use Rattle.gf_linear.proofs.Views.{view-same, view-sizes, view-cols, view-rows, view-over}
 
@@ -44,3 +44,28 @@ module _ (b md rows cols : ℕ) (xs : List ℕ) (v : Matrix) (view : matrix_of r
   pub greatest_found : (k : ℕ) → IsOver b v → k ≡ rank (2 ^ b) (gf_mul b md) v.cols (entry v) (length v.rows) → IsGreatestNumber (2 ^ b) (gf_mul b md) v.cols (entry v) (length v.rows) k
   greatest_found k over e =
       subst (λ (x : ℕ). IsGreatestNumber (2 ^ b) (gf_mul b md) v.cols (entry v) (length v.rows) x) (sym e) (greatest_of_rank (2 ^ b) (gf_mul b md) field v.cols (entry v) (length v.rows) over.below)
+
+  -- of a square matrix
+  pub dependent_found : length v.rows ≡ v.cols → (AreIndependent (2 ^ b) (gf_mul b md) rows (cell xs rows) rows → ⊥) → AreDependent b md v
+  dependent_found square d k =
+      d (subst (λ (n : ℕ). AreIndependent (2 ^ b) (gf_mul b md) n (cell xs n) rows) (square_is square)
+      (independent_entries (cell xs cols) (λ i li j lj. sym (view-same rows cols xs v view i li j lj))
+      (subst (λ (r : ℕ). AreIndependent (2 ^ b) (gf_mul b md) cols (entry v) r) (sym (view-rows rows cols xs v view))
+      (subst (λ (n : ℕ). AreIndependent (2 ^ b) (gf_mul b md) n (entry v) (length v.rows)) (sym (view-cols rows cols xs v view)) k))))
+    where
+      square_is : length v.rows ≡ v.cols → cols ≡ rows
+      square_is e = view-cols rows cols xs v view ∙ sym e ∙ sym (view-rows rows cols xs v view)
+
+  pub duals_viewed : (ds : List ℕ) → length v.rows ≡ v.cols → length ds ≡ rows * rows → All (λ a. a < 2 ^ b) ds → IsDual (gf_mul b md) rows (cell xs rows) (cell ds rows) → IsDualOf b md v (matrix_of rows cols ds)
+  duals_viewed ds square ld sd h =
+      let d : Matrix = matrix_of rows cols ds in
+      let e : rows ≡ cols = view-rows rows cols xs v view ∙ square ∙ sym (view-cols rows cols xs v view) in
+      let long : length ds ≡ rows * cols = ld ∙ ap (λ (n : ℕ). rows * n) e in
+      let over_cols : IsDual (gf_mul b md) cols (cell xs cols) (cell ds cols) = subst (λ (n : ℕ). IsDual (gf_mul b md) n (cell xs n) (cell ds n)) e h in
+      let same_at : (zs : List ℕ) (w : Matrix) → matrix_of rows cols zs ≡ w → AreSame cols cols (cell zs cols) (entry w) = λ zs w at i li j lj. view-same rows cols zs w at i (omega arith) j lj in
+      record {
+        same_cols = view-cols rows cols xs v view;
+        same_rows = sym (view-rows rows cols ds d refl) ∙ view-rows rows cols xs v view;
+        dual = subst (λ (n : ℕ). IsDual (gf_mul b md) n (entry v) (entry d)) (view-cols rows cols xs v view) (dual_entries (entry v) (entry d) (same_at xs v view) (same_at ds d refl) over_cols);
+        over = view-over rows cols ds d refl b sd long;
+      }

@@ -3,3 +3,4 @@ pub mod Steps
 pub mod Forms
 pub mod Found
 mod BitPasses
+pub mod Joins

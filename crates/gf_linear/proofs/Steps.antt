@@ -1,7 +1,8 @@
 -- The entries of a matrix after a step on its rows
-use Rattle.std.proofs.Common.{◌≡◌, ◌≢◌, ℕ, ◌+◌, ◌*◌, ◌-◌, ◌<◌, ◌≤◌, List, ◌++◌, length, min, take, drop, get_or, sym, ◌∙◌, ap, subst, inl, inr, arith, bit_xor, All}
-use Rattle.std.proofs.lemmas.Bool.{cases_lt}
-use Rattle.std.proofs.lemmas.List.{get_or-take, get_or-drop, get_or_append_left, get_or-append_right, get_or-append-add, length-append, length-drop, length-take, length-take-le}
+use Rattle.std.proofs.Common.{◌≡◌, ◌≢◌, ℕ, ◌+◌, ◌*◌, ◌-◌, ◌/◌, ◌%◌, ◌<◌, ◌≤◌, List, ◌++◌, length, min, take, drop, get_or, sym, ◌∙◌, ap, subst, inl, inr, arith, bit_xor, All}
+use Rattle.std.proofs.lemmas.Bool.{cases_eq, cases_lt}
+use Rattle.std.proofs.lemmas.Nat.{div-add-mod', div_below, mod_below}
+use Rattle.std.proofs.lemmas.List.{get_or-take, get_or-drop, get_or_append_left, get_or-append_right, get_or-append-add, length-append, length-drop, length-take, length-take-le, get_or_default}
 use Rattle.std.proofs.lemmas.List.Elements.{All-append}
 use Rattle.std.specs.Int.Bits.{xor_zero_r}
 use borrow.Rule.Slice.PartMut.{put_mid}
@@ -172,3 +173,15 @@ pub part-length : (rows cols k s : ℕ) (xs : List ℕ) → k < rows → length 
 part-length rows cols k s xs l e es =
     let room : k * cols + cols ≤ length xs = row_end rows cols k (length xs) l e in
     length-take-le s (drop (k * cols) xs) (rw length-drop (omega arith))
+
+-- the entries are symbols where those of each row are
+pub All-cells : (P : ℕ → Type 0) (rows cols : ℕ) (m : List ℕ) → length m ≡ rows * cols → ((i j : ℕ) → i < rows → j < cols → P (cell m cols i j)) → All P m
+All-cells P rows cols m e h n d l = elim (cases_eq cols 0) [
+  | inl z ↦ absurd (let w : rows * cols ≡ 0 = ap (λ (x : ℕ). rows * x) z ∙ (let y : rows * 0 ≡ 0 = omega arith in y) in omega arith)
+  | inr s ↦
+      let place : n / cols * cols + n % cols ≡ n = div-add-mod' n cols in
+      let low : n / cols < rows = div_below n cols rows (omega arith) (omega arith) in
+      let rest : n % cols < cols = mod_below n cols (omega arith) in
+      let at : get_or m n d ≡ cell m cols (n / cols) (n % cols) = get_or_default m n d 0 l ∙ ap (λ (p : ℕ). get_or m p 0) (sym place) in
+      subst P (sym at) (h (n / cols) (n % cols) low rest)
+]

@@ -8,6 +8,7 @@ use borrow.Rule.Slice.PartMut.{put_mid}
 use Rattle.linear_theory.proofs.Tables.{length-rows_of, row-rows_of, entry-rows_of, length-row, rows_of-set, rows_of-replicate, rows_of-put_mid, place_below, row_end}
 use Rattle.linear_theory.proofs.Entries.{AreSame}
 use Rattle.gf_linear.specs.Cells.{cell}
+use Rattle.gf_linear.proofs.Steps.{All-cells}
 use Rattle.gf_linear.specs.Matrix.{Matrix, IsMatrix, IsOver, row, entry, zero_matrix, with_row, with_entry, matrix_of}
 
 pub view-new : (rows cols : ℕ) (m : List ℕ) → m ≡ replicate (rows * cols) 0 → matrix_of rows cols m ≡ zero_matrix rows cols
@@ -60,16 +61,7 @@ module _ (rows cols : ℕ) (m : List ℕ) (v : Matrix) (view : matrix_of rows co
   view-same i li j lj = view-entry i j li lj
 
   pub view-symbols : (b : ℕ) → IsOver b v → length m ≡ rows * cols → All (λ a. a < 2 ^ b) m
-  view-symbols b h e n d l = elim (cases_eq cols 0) [
-    | inl z ↦ absurd (let w : rows * cols ≡ 0 = ap (λ (x : ℕ). rows * x) z ∙ (let y : rows * 0 ≡ 0 = omega arith in y) in omega arith)
-    | inr s ↦
-        let place : n / cols * cols + n % cols ≡ n = div-add-mod' n cols in
-        let low : n / cols < rows = div_below n cols rows (omega arith) (omega arith) in
-        let rest : n % cols < cols = mod_below n cols (omega arith) in
-        let at : get_or m n d ≡ entry v (n / cols) (n % cols) =
-        get_or_default m n d 0 l ∙ ap (λ (p : ℕ). get_or m p 0) (sym place) ∙ view-entry (n / cols) (n % cols) low rest in
-        subst (λ (x : ℕ). x < 2 ^ b) (sym at) (h.below (n / cols) (n % cols))
-  ]
+  view-symbols b h e = All-cells (λ a. a < 2 ^ b) rows cols m e (λ i j li lj. subst (λ (x : ℕ). x < 2 ^ b) (sym (view-entry i j li lj)) (h.below i j))
 
   pub view-over : (b : ℕ) → All (λ a. a < 2 ^ b) m → length m ≡ rows * cols → IsOver b v
   view-over b h e = record {

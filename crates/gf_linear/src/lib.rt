@@ -2,12 +2,14 @@
 //! `Matrix` is the type; the functions take a field that meets `Field`.
 #![tactic(auto)]
 
+mod duals;
 mod elimination;
 mod lists;
 mod matrix;
 mod ranks;
 mod rows;
 
+pub use duals::dual_of;
 pub use lists::{add_scaled, dot};
 pub use matrix::Matrix;
 pub use ranks::{echelon, rank};

@@ -14,3 +14,4 @@ pub mod Ordered
 pub mod Tables
 pub mod Entries
 pub mod Free
+pub mod Joined
