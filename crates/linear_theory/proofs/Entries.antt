@@ -1,8 +1,8 @@
 -- Words on rows see the entries below a number of rows and of columns alone
-use Rattle.std.proofs.Common.{◌≡◌, ℕ, ◌<◌, ◌≤◌, sym, ◌∙◌, ap, subst, arith}
+use Rattle.std.proofs.Common.{◌≡◌, ℕ, ◌<◌, ◌≤◌, sym, ◌∙◌, ap, arith}
 use Rattle.field_theory.specs.Field.{IsField}
 use Rattle.field_theory.proofs.Sums.{sum-same}
-use Rattle.linear_theory.specs.Linear.{dot, combine, IsCombination, AreIndependent, SameSpan, IsReduced, IsDual, IsGreatestNumber, rank}
+use Rattle.linear_theory.specs.Linear.{dot, IsCombination, AreIndependent, SameSpan, IsReduced, IsDual, IsGreatestNumber, rank}
 use Rattle.linear_theory.proofs.Exchange.{combination_rows}
 use Rattle.linear_theory.proofs.Spans.{combination_same}
 use Rattle.linear_theory.proofs.Bases.{rank_reached, rank_greatest}

@@ -1,11 +1,11 @@
 -- The first columns of a reduced form, the columns without a pivot, and the one value at a candidate
-use Rattle.std.proofs.lemmas.Bool.{cases_lt, cases_eq, cases_order}
-use Rattle.std.proofs.Common.{◌≡◌, ◌≢◌, ◌⊎◌, ℕ, zero, suc, ◌+◌, ◌<◌, ◌≤◌, sym, ◌∙◌, ap, subst, inl, inr, arith}
+use Rattle.std.proofs.lemmas.Bool.{cases_lt, cases_eq}
+use Rattle.std.proofs.Common.{◌≡◌, ◌≢◌, ℕ, zero, suc, ◌+◌, ◌<◌, ◌≤◌, sym, ◌∙◌, ap, subst, inl, inr, arith}
 use Rattle.field_theory.specs.Field.{IsField}
 use Rattle.field_theory.specs.Sums.{xor_sum, put}
 use Rattle.field_theory.proofs.Sums.{sum-same}
 use Rattle.linear_theory.specs.Linear.{IsCombination, SameSpan, IsReduced, IsFree, IsCandidate, KeepsRank, rank, put_entry}
-use Rattle.linear_theory.proofs.Spans.{put-same, put-other, combination_same}
+use Rattle.linear_theory.proofs.Spans.{put-same, put-other}
 use Rattle.linear_theory.proofs.Ranks.{combination_of_rank}
 use Rattle.linear_theory.proofs.Steps.{span_rank, span_iff}
 use Rattle.linear_theory.proofs.Corners.{fill_value, candidate_value, put_entry-rank_same}

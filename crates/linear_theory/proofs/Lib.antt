@@ -15,3 +15,4 @@ pub mod Tables
 pub mod Entries
 pub mod Free
 pub mod Joined
+pub mod Functionals

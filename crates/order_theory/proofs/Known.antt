@@ -9,7 +9,7 @@ use Rattle.linear_theory.proofs.Duals.{dot_comm, dot_combine}
 use Rattle.std.specs.Int.Bits.{xor_self, xor_zero_r}
 use Rattle.std.proofs.lemmas.Nat.{xor_comm}
 use Rattle.order_theory.specs.Basis.{Basis, IsSound, IsSpannedBelow, HasLead, vector, lead, rank_at, sum_at, product}
-use Rattle.order_theory.proofs.Fields.{dot_xor, dot_scale}
+use Rattle.linear_theory.proofs.Functionals.{dot_xor, dot_scale}
 use Rattle.order_theory.proofs.Shape.{cases_value, earlier}
 
 xor_apart : (a b c : ℕ) → bit_xor (bit_xor c a) (bit_xor c b) ≡ bit_xor a b

@@ -23,7 +23,8 @@ use Rattle.order_theory.specs.Codes.{low_bits, marked, IsCodeword, IsBound, list
 use Rattle.order_theory.specs.Voting.{SameBelow, vote_at, one_below, entry_by}
 use Rattle.order_theory.specs.Course.{IsMoved}
 use Rattle.order_theory.specs.Laws.{VotesOn, RankLaw, GreatestRankLaw, MajorityLaw, DistanceLaw, BoundLaw, RadiusLaw, NearLaw, ErrorLaw, KnownLaw, VoteLaw, VoteOnceLaw, VoteMadeLaw, ElectionLaw, CountLaw, NoErrorLaw, RecoveryLaw, SyndromeLaw, StepLaw, MarkedLaw, VotedLaw, FoundLaw, NearErrorLaw}
-use Rattle.order_theory.proofs.Fields.{first_or_none, dot_xor, dot_scale}
+use Rattle.linear_theory.proofs.Functionals.{dot_xor, dot_scale}
+use Rattle.order_theory.proofs.Fields.{first_or_none}
 use Rattle.order_theory.proofs.Shape.{word_below, dual_below}
 use Rattle.order_theory.proofs.Known.{syn, entry_before, entry_at_member}
 use Rattle.order_theory.proofs.Weights.{weight-le, list_sum_back, weight_same, weight_zero, weight_is, distance_is, length-list_sum, get_or-list_sum}
