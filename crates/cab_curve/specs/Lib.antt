@@ -1,3 +1,6 @@
 pub mod First
 pub mod Equation
 pub mod Points
+pub mod Functions
+pub mod Domain
+pub mod DomainLaws

@@ -4,11 +4,14 @@
 //! Source: S. Miura, "Linear codes on affine algebraic curves", 1998, for the form of the curves.
 #![tactic(auto, using(crate::proofs::Least::steps))]
 
+mod domain;
 mod equation;
+mod functions;
 mod points;
 mod power;
 
 pub use curve_theory::Term;
+pub use domain::CabDomain;
 pub use equation::{Curve, CurveFault};
 pub use order_domain::Point;
 pub use power::monomial;

@@ -23,7 +23,7 @@ term i j c = record { i = i; j = j; c = c }
 one-same : (t : Term) (i j : ℕ) → t.i ≡ i → t.j ≡ j → one t i j ≡ t.c
 one-same t i j e f = cond-true (eqb t.i i && eqb t.j j) t.c 0 (and_from (eqb t.i i) (eqb t.j j) (eq-eqb t.i i e) (eq-eqb t.j j f))
 
-one-other_x : (t : Term) (i j : ℕ) → t.i ≢ i → one t i j ≡ 0
+pub one-other_x : (t : Term) (i j : ℕ) → t.i ≢ i → one t i j ≡ 0
 one-other_x t i j d = cond-false (eqb t.i i && eqb t.j j) t.c 0 (and_left (eqb t.i i) (eqb t.j j) (ne_eqb t.i i d))
 
 one-other_y : (t : Term) (i j : ℕ) → t.j ≢ j → one t i j ≡ 0
@@ -249,14 +249,14 @@ module _ (size : ℕ) (mul : ℕ → ℕ → ℕ) (field : IsField size mul) whe
       cond_xor true c d = refl
       cond_xor false c d = refl
 
-eqb_suc : (u m : ℕ) → eqb (suc u) (suc m) ≡ eqb u m
+pub eqb_suc : (u m : ℕ) → eqb (suc u) (suc m) ≡ eqb u m
 eqb_suc u m =
     elim (cases_eq u m) [
       | inl e ↦ eq-eqb (suc u) (suc m) (ap suc e) ∙ sym (eq-eqb u m e)
       | inr e ↦ ne_eqb (suc u) (suc m) (λ f. e (omega arith)) ∙ sym (ne_eqb u m e)
     ]
 
-shift_y-one : (i j c k l : ℕ) → one (term i (suc j) c) k l ≡ shift_y (one (term i j c)) k l
+pub shift_y-one : (i j c k l : ℕ) → one (term i (suc j) c) k l ≡ shift_y (one (term i j c)) k l
 shift_y-one i j c k zero = one-other_y (term i (suc j) c) k 0 (λ e. absurd (omega arith))
 shift_y-one i j c k (suc l) = ap (λ q. cond (eqb i k && q) c 0) (eqb_suc j l)
 

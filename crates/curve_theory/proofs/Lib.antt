@@ -13,3 +13,4 @@ pub mod Functions
 pub mod Weights
 pub mod Equation
 pub mod Pairs
+pub mod Monomials

@@ -73,3 +73,10 @@ pub total-tests : (n : ℕ) (q : ℕ → Bool) → total n (λ w. cond (q w) 1 0
 total-tests zero q = refl
 total-tests (suc n) q = ap (λ z. z + cond (q n) 1 0) (total-tests n q)
 
+pub count_below-le : (n : ℕ) (p : ℕ → Bool) → count_below n p ≤ n
+count_below-le zero p = omega arith
+count_below-le (suc n) p = go (p n) (count_below-le n p)
+  where
+    go : (b : Bool) → count_below n p ≤ n → count_below n p + cond b 1 0 ≤ suc n
+    go true h = omega arith
+    go false h = omega arith
