@@ -15,3 +15,6 @@ pub use domain::CabDomain;
 pub use equation::{Curve, CurveFault};
 pub use order_domain::Point;
 pub use power::monomial;
+
+#[cfg(test)]
+mod tests;
