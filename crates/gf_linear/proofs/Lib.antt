@@ -4,3 +4,4 @@ pub mod Forms
 pub mod Found
 mod BitPasses
 pub mod Joins
+pub mod Writes

@@ -1,11 +1,10 @@
--- The new rows, found by n lists that are kept beside them. Of n lists U that together see every vector, the first k are
--- dual to the k new rows so far, and the others vanish on these; so a further row is new exactly where one of the others
--- does not vanish on it. In the end the lists are dual to the new rows.
+-- Lists that are kept beside rows tell which rows are new, and in the end are dual to the new rows
 use Rattle.std.proofs.Common.{◌≡◌, ◌≢◌, ◌⊎◌, ℕ, zero, suc, ◌+◌, ◌<◌, ◌≤◌, cond, ltb, sym, ◌∙◌, ap, subst, refl, inl, inr, arith, bit_xor}
 use Rattle.std.specs.Int.Bits.{xor_self, xor_zero_r}
 use Rattle.std.proofs.lemmas.Bool.{cases_eq, cases_lt, cond-true, cond-false, lt-ltb, le-ltb}
 use Rattle.field_theory.specs.Field.{IsField}
 use Rattle.field_theory.specs.Sums.{unit, put, xor_sum}
+use Rattle.linear_theory.specs.Functionals.{AreFunctionals, IsPivotList, AreCleared}
 use Rattle.linear_theory.specs.Linear.{dot, combine, IsCombination, rank}
 use Rattle.field_theory.proofs.Sums.{sum-same, sum-xor, sum-zero, mul-sum, mul-zero, xor_same, mul_left_comm, mul_one, xor_below, sum_below, eq_or_below}
 use Rattle.linear_theory.proofs.Spans.{put-same, put-other, combination_row, combination_through}
@@ -35,29 +34,6 @@ module _ (size : ℕ) (mul : ℕ → ℕ → ℕ) (field : IsField size mul) whe
 
   pub dot_scaled : (n : ℕ) (e u v : ℕ → ℕ) (x : ℕ) → ((p : ℕ) → p < n → v p ≡ mul x (u p)) → dot mul n e v ≡ mul x (dot mul n e u)
   dot_scaled n e u v x h = dot_same n e v (λ p. mul x (u p)) h ∙ dot_scale n e x u
-
--- the lists U after the rows below r: `picks` names the k new ones
-pub record AreFunctionals (size : ℕ) (mul : ℕ → ℕ → ℕ) (n : ℕ) (rows : ℕ → ℕ → ℕ) (r k : ℕ) (picks : ℕ → ℕ) (U : ℕ → ℕ → ℕ) : Type 0 where
-  pub below : (t : ℕ) → t < k → picks t < r
-  pub rising : (s t : ℕ) → s < t → t < k → picks s < picks t
-  pub fresh : (t : ℕ) → t < k → IsCombination mul n rows (picks t) (rows (picks t)) → ⊥
-  pub others : (i : ℕ) → i < r → ((t : ℕ) → t < k → i ≢ picks t) → IsCombination mul n rows i (rows i)
-  pub products : (t q : ℕ) → t < k → q < n → dot mul n (rows (picks t)) (U q) ≡ unit t q
-  -- only the zero vector is not seen
-  pub seen : (w : ℕ → ℕ) → ((p : ℕ) → p < n → w p < size) → ((q : ℕ) → q < n → dot mul n w (U q) ≡ 0) → (p : ℕ) → p < n → w p ≡ 0
-  pub counted : k ≡ rank size mul n rows r
-
--- P takes the place of list k: its product with row r is 1, it vanishes on the new rows so far, and what neither it nor the
--- other lists see list k did not see
-pub record IsPivotList (mul : ℕ → ℕ → ℕ) (n : ℕ) (rows : ℕ → ℕ → ℕ) (r k : ℕ) (picks : ℕ → ℕ) (U : ℕ → ℕ → ℕ) (P : ℕ → ℕ) : Type 0 where
-  pub one : dot mul n (rows r) P ≡ 1
-  pub vanishes : (t : ℕ) → t < k → dot mul n (rows (picks t)) P ≡ 0
-  pub sees : (w : ℕ → ℕ) → dot mul n w P ≡ 0 → ((q : ℕ) → q < n → q ≢ k → dot mul n w (U q) ≡ 0) → dot mul n w (U k) ≡ 0
-
--- the lists V are U with the pivot list at k, and with it taken from the others
-pub record AreCleared (mul : ℕ → ℕ → ℕ) (n : ℕ) (row : ℕ → ℕ) (k : ℕ) (U : ℕ → ℕ → ℕ) (P : ℕ → ℕ) (V : ℕ → ℕ → ℕ) : Type 0 where
-  pub pivot : (p : ℕ) → p < n → V k p ≡ P p
-  pub others : (q : ℕ) → q < n → q ≢ k → (p : ℕ) → p < n → V q p ≡ bit_xor (U q p) (mul (dot mul n row (U q)) (P p))
 
 module _ (size : ℕ) (mul : ℕ → ℕ → ℕ) (field : IsField size mul) (n : ℕ) (rows : ℕ → ℕ → ℕ) (symbols : (i j : ℕ) → rows i j < size) where
   unit_here : (t : ℕ) → unit t t ≡ 1
@@ -263,3 +239,21 @@ module _ (size : ℕ) (mul : ℕ → ℕ → ℕ) (field : IsField size mul) (n 
         combination_through size mul field n (λ t. rows (picks t)) k rows i (rows i)
         (λ t m. combination_row size mul field n rows i symbols (picks t) (let u : picks t < r = h.below t m in omega arith))
         (functionals_span (rows i) (symbols i) (λ q a b. absurd (omega arith)))
+
+  -- only the entries of the lists, and the picks below k, count
+  pub functionals_same : (r k : ℕ) (picks picks' : ℕ → ℕ) (U V : ℕ → ℕ → ℕ) → ((q p : ℕ) → q < n → p < n → V q p ≡ U q p) → ((t : ℕ) → t < k → picks' t ≡ picks t) → AreFunctionals size mul n rows r k picks U → AreFunctionals size mul n rows r k picks' V
+  functionals_same r k picks picks' U V lists names h =
+      let same : (e : ℕ → ℕ) (q : ℕ) → q < n → dot mul n e (V q) ≡ dot mul n e (U q) = λ e q l. dot_same size mul field n e (V q) (U q) (λ p m. lists q p l m) in
+      record {
+        below = λ t l. let u : picks t < r = h.below t l in let e : picks' t ≡ picks t = names t l in omega arith;
+        rising = λ s t l m.
+            let u : picks s < picks t = h.rising s t l m in
+            let e : picks' s ≡ picks s = names s (omega arith) in
+            let f : picks' t ≡ picks t = names t m in
+            omega arith;
+        fresh = λ t l c. h.fresh t l (subst (λ (i : ℕ). IsCombination mul n rows i (rows i)) (names t l) c);
+        others = λ i l d. h.others i l (λ t m e. d t m (e ∙ sym (names t m)));
+        products = λ t q l m. ap (λ (i : ℕ). dot mul n (rows i) (V q)) (names t l) ∙ same (rows (picks t)) q m ∙ h.products t q l m;
+        seen = λ w low z. h.seen w low (λ q l. sym (same w q l) ∙ z q l);
+        counted = h.counted;
+      }

@@ -1,2 +1,3 @@
 pub mod Linear
 pub mod Tables
+pub mod Functionals
