@@ -1,16 +1,16 @@
 -- What the elimination of a matrix finds, in the words of contracts
-use Rattle.std.proofs.Common.{◌≡◌, ℕ, ◌*◌, ◌^◌, ◌<◌, List, length, sym, ◌∙◌, ap, subst, refl, arith, All}
+use Rattle.std.proofs.Common.{◌≡◌, ℕ, suc, ◌*◌, ◌^◌, ◌<◌, ◌≤◌, List, length, slice_index, sym, ◌∙◌, ap, subst, refl, arith, All}
 use Rattle.field_theory.specs.Field.{IsField}
 use Rattle.gf_theory.specs.Field.{gf_mul, IsModulus}
 use Rattle.gf_theory.proofs.Fields.{field_of_bits}
-use Rattle.linear_theory.specs.Linear.{AreIndependent, IsDual, IsReduced, SameSpan, IsGreatestNumber, rank}
+use Rattle.linear_theory.specs.Linear.{dot, AreIndependent, IsDual, IsFree, IsReduced, SameSpan, IsGreatestNumber, rank}
 use Rattle.linear_theory.proofs.Corners.{rank_rows}
-use Rattle.linear_theory.proofs.Entries.{AreSame, dual_entries, independent_entries, reduced_entries, span_entries, greatest_of_rank}
+use Rattle.linear_theory.proofs.Entries.{AreSame, dot_entries, dual_entries, independent_entries, reduced_entries, span_entries, greatest_of_rank}
 use Rattle.linear_theory.proofs.Reduced.{reduced_rank}
 use Rattle.linear_theory.proofs.Steps.{span_rank}
 use Rattle.gf_linear.specs.Cells.{cell}
 use Rattle.gf_linear.specs.Matrix.{Matrix, entry, matrix_of, IsOver}
-use Rattle.gf_linear.specs.Elimination.{IsEchelonOf, IsDualOf, AreDependent}
+use Rattle.gf_linear.specs.Elimination.{IsEchelonOf, IsDualOf, AreDependent, IsSolution, HasFreeZeros}
 use Rattle.gf_linear.proofs.Forms.{cells_below}
 use Rattle.gf_linear.proofs.Views.{view-same, view-sizes, view-cols, view-rows, view-over}
 
@@ -69,3 +69,35 @@ module _ (b md rows cols : ℕ) (xs : List ℕ) (v : Matrix) (view : matrix_of r
         dual = subst (λ (n : ℕ). IsDual (gf_mul b md) n (entry v) (entry d)) (view-cols rows cols xs v view) (dual_entries (entry v) (entry d) (same_at xs v view) (same_at ds d refl) over_cols);
         over = view-over rows cols ds d refl b sd long;
       }
+
+  pub solution_found : (rhs x : List ℕ) → length rhs ≡ length v.rows → length x ≡ cols → All (λ a. a < 2 ^ b) x
+      → ((i : ℕ) → i < length rhs → dot (gf_mul b md) cols (cell xs cols i) (slice_index x) ≡ slice_index rhs i) → IsSolution b md v rhs x
+  solution_found rhs x sides lx sx solves = record {
+    places = lx ∙ view-cols rows cols xs v view;
+    symbols = sx;
+    solves = λ i li.
+        subst (λ (n : ℕ). dot (gf_mul b md) n (entry v i) (slice_index x) ≡ slice_index rhs i) (view-cols rows cols xs v view)
+        (dot_entries (gf_mul b md) cols (entry v i) (slice_index x) (cell xs cols i) (slice_index x)
+        (λ p lp. sym (view-same rows cols xs v view i (subst (λ (n : ℕ). i < n) (sym (view-rows rows cols xs v view)) li) p lp)) (λ p lp. refl)
+        ∙ solves i (subst (λ (n : ℕ). i < n) (sym sides) li));
+  }
+
+  pub no_solution_found : (rhs x : List ℕ) → length rhs ≡ length v.rows → ((y : ℕ → ℕ) → ((i : ℕ) → i < length rhs → dot (gf_mul b md) cols (cell xs cols i) y ≡ slice_index rhs i) → ⊥) → IsSolution b md v rhs x → ⊥
+  no_solution_found rhs x sides none s =
+      none (slice_index x) (λ i li.
+      let l : i < length v.rows = subst (λ (n : ℕ). i < n) sides li in
+      dot_entries (gf_mul b md) cols (cell xs cols i) (slice_index x) (entry v i) (slice_index x)
+      (λ p lp. view-same rows cols xs v view i (subst (λ (n : ℕ). i < n) (sym (view-rows rows cols xs v view)) l) p lp) (λ p lp. refl)
+      ∙ subst (λ (n : ℕ). dot (gf_mul b md) n (entry v i) (slice_index x) ≡ slice_index rhs i) (sym (view-cols rows cols xs v view)) (s.solves i l))
+
+  pub free_found : (rhs x : List ℕ) → length rhs ≡ length v.rows → ((j : ℕ) → j < cols → IsFree (2 ^ b) (gf_mul b md) (cell xs cols) (length rhs) j → slice_index x j ≡ 0) → HasFreeZeros b md v x
+  free_found rhs x sides free = record {
+    at_free = λ j lj f.
+        let l : j < cols = subst (λ (n : ℕ). j < n) (sym (view-cols rows cols xs v view)) lj in
+        let same : (n : ℕ) → n ≤ cols → rank (2 ^ b) (gf_mul b md) n (cell xs cols) rows ≡ rank (2 ^ b) (gf_mul b md) n (entry v) rows =
+        λ n le. rank_rows (2 ^ b) (gf_mul b md) field n (cell xs cols) (entry v) rows (λ i li q lq. view-same rows cols xs v view i li q (omega arith)) in
+        let e : length rhs ≡ rows = sides ∙ sym (view-rows rows cols xs v view) in
+        let g : IsFree (2 ^ b) (gf_mul b md) (entry v) rows j = subst (λ (r : ℕ). IsFree (2 ^ b) (gf_mul b md) (entry v) r j) (sym (view-rows rows cols xs v view)) f in
+        free j l (subst (λ (r : ℕ). IsFree (2 ^ b) (gf_mul b md) (cell xs cols) r j) (sym e)
+        (record { adds_nothing = same (suc j) (omega arith) ∙ g.adds_nothing ∙ sym (same j (omega arith)) }));
+  }

@@ -1,7 +1,8 @@
-pub mod Views
-pub mod Steps
+mod BitPasses
 pub mod Forms
 pub mod Found
-mod BitPasses
 pub mod Joins
+pub mod Sides
+pub mod Steps
+pub mod Views
 pub mod Writes

@@ -4,6 +4,7 @@
 -- IsSolution      a list solves the equations whose left sides are the rows of a matrix
 -- HasFreeZeros    a list is 0 at each place that has no pivot in the reduced row echelon form
 -- beside_unit     a matrix with the unit matrix to its right
+-- beside_column   a matrix with a column to its right
 -- residue_of      the sum of the entries of a row at the pivots, each times the entry of a pivot's row in a column
 use Rattle.std.specs.Prelude.{◌≡◌, ℕ, ◌+◌, ◌-◌, ◌<◌, ◌^◌, List, length, slice_index, All, cond, nat_lt}
 use Rattle.field_theory.specs.Sums.{xor_sum, unit}
@@ -39,6 +40,9 @@ pub record HasFreeZeros (bits modulus : ℕ) (m : Matrix) (x : List ℕ) : Type 
 
 abbrev pub beside_unit : (ℕ → ℕ → ℕ) → ℕ → ℕ → ℕ → ℕ
 beside_unit rows n i p = cond (nat_lt p n) (rows i p) (unit i (p - n))
+
+abbrev pub beside_column : (ℕ → ℕ → ℕ) → ℕ → (ℕ → ℕ) → ℕ → ℕ → ℕ
+beside_column rows n rhs i p = cond (nat_lt p n) (rows i p) (rhs i)
 
 abbrev pub residue_of : (ℕ → ℕ → ℕ) → ℕ → (ℕ → ℕ) → (ℕ → ℕ) → (ℕ → ℕ → ℕ) → ℕ → ℕ
 residue_of mul k pivots row rows j = xor_sum k (λ t. mul (row (pivots t)) (rows t j))

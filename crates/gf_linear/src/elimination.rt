@@ -27,6 +27,20 @@ fn find_pivot(m: &[u8], rows: usize, cols: usize, k: usize, j: usize) -> usize
     rows
 }
 
+/// The first place at which the row is not 0, or its length.
+pub fn lead_of(row: &[u8]) -> usize
+    ensures within { result ≤ length row.now }
+    ensures before { (p : ℕ) → p < result → slice_index row.now p ≡ 0 }
+    ensures found { result < length row.now → slice_index row.now result ≢ 0 }
+{
+    for (p, entry) in row.iter().enumerate() {
+        if *entry != 0 {
+            return p;
+        }
+    }
+    row.len()
+}
+
 // Adds row `p` to row `k`, which stands above it.
 fn add_row<F: Field>(f: &F, m: &mut [u8], rows: usize, cols: usize, k: usize, p: usize)
     requires fits { length m.old ≡ rows * cols }

@@ -8,8 +8,10 @@ mod lists;
 mod matrix;
 mod ranks;
 mod rows;
+mod solutions;
 
 pub use duals::dual_of;
 pub use lists::{add_scaled, dot};
 pub use matrix::Matrix;
 pub use ranks::{echelon, rank};
+pub use solutions::solve;

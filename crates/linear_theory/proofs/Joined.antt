@@ -1,16 +1,18 @@
 -- The dual list and the solution, read off the reduced form of a matrix that was joined with the unit matrix, or with a
 -- column of right sides
-use Rattle.std.proofs.lemmas.Bool.{cases_eq}
-use Rattle.std.proofs.Common.{◌≡◌, ◌≢◌, ℕ, zero, suc, ◌+◌, ◌-◌, ◌<◌, ◌≤◌, sym, ◌∙◌, ap, subst, arith}
+use Rattle.std.proofs.lemmas.Bool.{cases_order, cases_Bool, eqb-true, eq-eqb, both_ways}
+use Rattle.std.proofs.Common.{◌≡◌, ◌≢◌, ℕ, zero, suc, ◌+◌, ◌-◌, ◌<◌, ◌≤◌, true, eqb, sym, ◌∙◌, ap, subst, refl, inl, inr, arith}
 use Rattle.field_theory.specs.Field.{IsField}
-use Rattle.field_theory.specs.Sums.{xor_sum, unit}
-use Rattle.field_theory.proofs.Sums.{sum-same, one_mul-mul}
+use Rattle.field_theory.specs.Sums.{any_below, unit}
+use Rattle.field_theory.proofs.Sums.{sum-same, sum_below, one_mul-mul}
 use Rattle.linear_theory.specs.Linear.{dot, combine, IsCombination, IsDual, IsSolution, IsReduced, IsFree, SameSpan, rank}
 use Rattle.linear_theory.proofs.Corners.{rank_rows}
 use Rattle.linear_theory.proofs.Duals.{sum_unit}
 use Rattle.linear_theory.proofs.Free.{reduced_not_free, free_span}
 use Rattle.linear_theory.proofs.Reduced.{Rises}
-use Rattle.linear_theory.proofs.Solving.{solution_of, solution_of-free, solution_span, reduced_no_solution, reduced_solution, dual_of_inverse}
+use Rattle.linear_theory.proofs.Solving.{solution_of, solution_of-pivot, solution_of-free, solution_span, reduced_no_solution, reduced_solution, dual_of_inverse}
+use Rattle.linear_theory.proofs.Entries.{dot_entries}
+use Rattle.linear_theory.proofs.Spans.{put-same, any_below-yes, any_below-from}
 use Rattle.linear_theory.proofs.Steps.{span_flip}
 
 -- n rising numbers below n are the numbers below n
@@ -76,3 +78,54 @@ module _ (size : ℕ) (mul : ℕ → ℕ → ℕ) (field : IsField size mul) whe
         } in
         let free : IsFree size mul reduced r j = free_span size mul field (suc n) joined reduced r r j b c e (omega arith) over in
         solution_of-free size mul field n reduced k h.pivots j (λ t lt d. reduced_not_free size mul field (suc n) reduced r k t h lt (subst (λ (q : ℕ). IsFree size mul reduced r q) (sym d) free))
+
+    -- values that are the last entries of the rows at the pivots, and 0 elsewhere
+    module _ (x : ℕ → ℕ) (at_pivots : (t : ℕ) → t < k → x (h.pivots t) ≡ reduced t n) (elsewhere : (j : ℕ) → ((t : ℕ) → t < k → h.pivots t ≢ j) → x j ≡ 0) where
+      values_solution : (j : ℕ) → x j ≡ solution_of size mul field reduced n k h.pivots j
+      values_solution j = elim (cases_Bool (any_below k (λ t. eqb (h.pivots t) j))) [
+        | inl y ↦
+            let w : (t : ℕ) × (t < k) × (eqb (h.pivots t) j ≡ true) = any_below-yes k (λ t. eqb (h.pivots t) j) y in
+            let d : h.pivots w.0 ≡ j = eqb-true (h.pivots w.0) j w.2 in
+            subst (λ (q : ℕ). x q ≡ solution_of size mul field reduced n k h.pivots q) d (at_pivots w.0 w.1 ∙ sym (solution_of-pivot size mul field n reduced r k w.0 c h w.1))
+        | inr y ↦
+            let apart : (t : ℕ) → t < k → h.pivots t ≢ j = λ t m d. both_ways (any_below k (λ t. eqb (h.pivots t) j)) y (any_below-from k (λ t. eqb (h.pivots t) j) t m (eq-eqb (h.pivots t) j d)) in
+            elsewhere j apart ∙ sym (solution_of-free size mul field n reduced k h.pivots j apart)
+      ]
+
+      pub values_solve : ((t : ℕ) → t < k → h.pivots t < n) → (i : ℕ) → i < r → dot mul n (rows i) x ≡ rhs i
+      values_solve low i li =
+          dot_entries mul n (rows i) x (rows i) (solution_of size mul field reduced n k h.pivots) (λ p lp. refl) (λ p lp. values_solution p) ∙ joined_solves low i li
+
+      pub values_free : (j : ℕ) → j < n → IsFree size mul rows r j → x j ≡ 0
+      values_free j l f = values_solution j ∙ joined_free j l f
+
+      pub values_below : (j : ℕ) → x j < size
+      values_below j = subst (λ (y : ℕ). y < size) (sym (values_solution j)) (sum_below size mul field k (λ t. mul (reduced t n) (unit (h.pivots t) j)) (λ t lt. field.mul_below (reduced t n) (unit (h.pivots t) j)))
+
+-- a row of a reduced form: the first place at which it is not 0 is its pivot
+pub lead_is_pivot : (n : ℕ) (rows : ℕ → ℕ → ℕ) (r k t lead : ℕ) (h : IsReduced n rows r k) → t < k → lead ≤ n → ((p : ℕ) → p < lead → rows t p ≡ 0) → (lead < n → rows t lead ≢ 0) → lead ≡ h.pivots t
+lead_is_pivot n rows r k t lead h l within before found =
+    let low : h.pivots t < n = h.in_range t l in
+    let one : rows t (h.pivots t) ≡ 1 = h.columns t t l l ∙ put-same (λ i. 0) t 1 in
+    elim (cases_order lead (h.pivots t)) [
+      | inl e ↦ e
+      | inr w ↦ elim w [
+        | inl a ↦ absurd (found (omega arith) (h.before t lead l a))
+        | inr a ↦ absurd (let z : rows t (h.pivots t) ≡ 0 = before (h.pivots t) a in omega arith)
+      ]
+    ]
+
+-- a reduced form, where the number of its columns is written in another way
+pub reduced_width : {n : ℕ} {rows : ℕ → ℕ → ℕ} {r k : ℕ} (m : ℕ) → n ≡ m → (h : IsReduced n rows r k) → (g : IsReduced m rows r k) × ((t : ℕ) → g.pivots t ≡ h.pivots t)
+reduced_width m e h = (
+  record {
+    few = h.few;
+    pivots = h.pivots;
+    in_range = λ t l. let w : h.pivots t < _ = h.in_range t l in omega arith;
+    rising = h.rising;
+    before = h.before;
+    columns = h.columns;
+    zeros = λ i j a b u. h.zeros i j a b (omega arith);
+  },
+  λ t. refl,
+)
