@@ -3,7 +3,7 @@ use Rattle.std.proofs.Common.{ℕ, zero, suc, ◌+◌, ◌*◌, ◌≡◌, ◌�
 use Rattle.std.specs.List.{IsFirstMaxByKey}
 use Rattle.field_theory.specs.Sums.{total, one_if, count_pairs}
 use Rattle.counting_theory.specs.Ranks.{IsRank, candidate, right, wrong}
-use Rattle.counting_theory.specs.Votes.{IsSum, pairs, right_votes, wrong_votes}
+use Rattle.counting_theory.specs.Votes.{IsSum, pairs, candidates, right_votes, wrong_votes}
 use Rattle.counting_theory.specs.Ballots.{casts, votes_for, IsVoteOn, count_before}
 use Rattle.field_theory.proofs.Totals.{count-le-count, count_same}
 use Rattle.counting_theory.proofs.Votes.{right_wins}
@@ -37,6 +37,15 @@ votes_for_is {n} {r} {s} {R} {sum_at} {vote} h = count_same n (casts R sum_at vo
 pub votes_for_other : {n r s : ℕ} {R sum_at vote : ℕ → ℕ → ℕ} → IsVoteOn n R sum_at vote r s → (v : ℕ) → v ≢ s → votes_for n R sum_at vote r v ≤ wrong_votes n R sum_at r
 unfolding votes_for wrong_votes
 votes_for_other {n} {r} {s} {R} {sum_at} {vote} h v ne = count-le-count n (casts R sum_at vote r v) (λ i j. eqb (sum_at i j) r && wrong R i j) (λ i j. cast_other h v i j ne)
+
+-- no value has more votes than there are candidates
+pub votes_for-le : (n : ℕ) (R sum_at vote : ℕ → ℕ → ℕ) (r v : ℕ) → votes_for n R sum_at vote r v ≤ candidates n R sum_at r
+unfolding votes_for candidates casts
+votes_for-le n R sum_at vote r v =
+    count-le-count n (λ i j. (eqb (sum_at i j) r && candidate R i j) && eqb (vote i j) v) (λ i j. eqb (sum_at i j) r && candidate R i j) (λ i j l m. fewer (eqb (sum_at i j) r && candidate R i j) (eqb (vote i j) v))
+  where
+    fewer : (x y : Bool) → one_if (x && y) ≤ one_if x
+    fewer x y = grind arith
 
 -- so s is where the greatest tally stands
 pub winner_is : {n count : ℕ} {R sum_at vote : ℕ → ℕ → ℕ} {r s : ℕ} → IsRank n R → IsSum n count sum_at → IsVoteOn n R sum_at vote r s → (w : ℕ) (tally : List ℕ) (b : ℕ) → R n n ≤ w → r < count → 2 * w < pairs n sum_at r → s < length tally → ((v : ℕ) → v < length tally → get_or tally v 0 ≡ votes_for n R sum_at vote r v) → IsFirstMaxByKey (λ x. x) tally (length tally) b → b ≡ s

@@ -244,7 +244,8 @@ error_law mul b marks t d y e e' h bound l yw ew ew' c c' light light' =
         ∙ weight_is b.n x xw.n_long
 
 -- ---- the course of a decoder
-moved_on : (mul : ℕ → ℕ → ℕ) (b : Basis) (h : IsSound mul b) (e w w' : List ℕ) (k v : ℕ) → k < b.n → v < 2 ^ b.bits → IsMoved mul b w k v w' → SameBelow mul b e w k → v ≡ syndrome mul b e k → SameBelow mul b e w' (k + 1)
+-- a list with the syndromes of e below k has that of k too, once it is moved there
+pub moved_on : (mul : ℕ → ℕ → ℕ) (b : Basis) (h : IsSound mul b) (e w w' : List ℕ) (k v : ℕ) → k < b.n → v < 2 ^ b.bits → IsMoved mul b w k v w' → SameBelow mul b e w k → v ≡ syndrome mul b e k → SameBelow mul b e w' (k + 1)
 moved_on mul b h e w w' k v lk lv move same is = record {
   each = λ m l.
       let s : (syndrome mul b w' k ≡ bit_xor (syndrome mul b w k) (bit_xor v (syndrome mul b w k))) × ((m : ℕ) → m < b.n → m ≢ k → syndrome mul b w' m ≡ syndrome mul b w m) =

@@ -1,14 +1,34 @@
 -- What settling one more entry leaves of the rest
 use Rattle.std.proofs.lemmas.Bool.{cases_eq}
-use Rattle.std.proofs.lemmas.List.{get_or-set_same, get_or-set_other, length-set}
-use Rattle.std.proofs.Common.{◌≡◌, ◌≢◌, ℕ, ◌+◌, ◌*◌, ◌<◌, ◌≤◌, ◌^◌, sym, ◌∙◌, ap, subst, inl, inr, arith}
-use Rattle.std.specs.Prelude.{slice_index}
-use Rattle.vote_matrix.specs.Matrix.{Matrix, cell, IsSettled, MaySettle, IsSound, settled_at}
-use Rattle.vote_matrix.proofs.Places.{below_set, cell-set_same, cell-set_other}
+use Rattle.std.proofs.lemmas.List.{get_or-set_same, get_or-set_other, length-set, length-replicate}
+use Rattle.std.proofs.Common.{◌≡◌, ◌≢◌, ℕ, ◌+◌, ◌*◌, ◌<◌, ◌≤◌, ◌^◌, ◌∙◌, ap, subst, inl, inr, arith}
+use Rattle.std.proofs.lemmas.Nat.{pow_pos}
+use Rattle.std.specs.Prelude.{slice_index, replicate}
+use Rattle.gf_theory.specs.Field.{IsModulus}
+use Rattle.vote_matrix.specs.Matrix.{Matrix, cell, MaySettle, IsSound, nothing_settled, settled_at}
+use Rattle.vote_matrix.proofs.Places.{below_set, below_replicate, cell-set_same, cell-set_other}
 
 -- each stored entry is a symbol
 place_below : (v : Matrix) → IsSound v → (p : ℕ) → slice_index v.entries p < 2 ^ v.bits
 place_below v sound p = let e : 0 * v.n + p ≡ p = omega arith in subst (λ (q : ℕ). slice_index v.entries q < 2 ^ v.bits) e (sound.symbols 0 p)
+
+-- a matrix of which nothing is settled
+pub nothing_known : (bits modulus n p : ℕ) → slice_index (nothing_settled bits modulus n).known p ≡ 0
+nothing_known bits modulus n p =
+    let low : slice_index (replicate n 0) p < 1 = below_replicate 1 n 0 (omega arith) p in
+    omega arith
+
+pub sound_nothing : (bits modulus n : ℕ) → IsModulus bits modulus → 1 ≤ n → n ≤ 1024 → IsSound (nothing_settled bits modulus n)
+sound_nothing bits modulus n h some small = record {
+  is_modulus = h;
+  some = some;
+  small = small;
+  known_fit = length-replicate n 0;
+  entries_fit = length-replicate (n * n) 0;
+  width = λ i l. omega (arith, nothing_known bits modulus n i);
+  falls = λ p q l u. omega (arith, nothing_known bits modulus n p, nothing_known bits modulus n q);
+  symbols = λ i j. below_replicate (2 ^ bits) (n * n) 0 (pow_pos bits) (i * n + j);
+}
 
 -- a matrix stays sound when an entry is settled
 module _ (v : Matrix) (i j x : ℕ) (sound : IsSound v) (li : i < v.n) (lj : j < v.n) (next : MaySettle v i j) (at : slice_index v.known i ≡ j) (lx : x < 2 ^ v.bits) where

@@ -1,0 +1,118 @@
+-- How the working list takes on the syndromes of the error
+use Rattle.std.proofs.Common.{ℕ, ◌≡◌, ◌≢◌, suc, ◌+◌, ◌*◌, ◌^◌, ◌<◌, ◌≤◌, Bool, true, false, List, length, get_or, sym, ◌∙◌, ap, subst, inl, inr, arith, bit_xor}
+use Rattle.std.specs.Int.Bits.{xor_self}
+use Rattle.std.specs.Prelude.{replicate, All}
+use Rattle.std.proofs.lemmas.Bool.{cases_lt}
+use Rattle.std.proofs.lemmas.Nat.{pow_pos}
+use Rattle.std.proofs.lemmas.List.{get_or_default, get_or-replicate, get_or_past, length-replicate}
+use Rattle.field_theory.proofs.Sums.{xor_below, xor_same, eq_or_below, sum-zero, zero-mul}
+use Rattle.order_theory.specs.Basis.{Basis, IsSoundBasis, IsWord, times, vector, label, pairs_at}
+use Rattle.order_theory.specs.Errors.{syndrome, weight, right_at, wrong_at}
+use Rattle.order_theory.specs.Codes.{IsBound, marked, list_sum}
+use Rattle.order_theory.specs.Course.{IsErrorOf, IsMoved}
+use Rattle.order_theory.specs.Laws.{VotesCounted}
+use Rattle.order_theory.specs.Voting.{SameBelow, votes_at}
+use Rattle.order_theory.proofs.Distances.{syn_below}
+use Rattle.order_theory.proofs.Shape.{word_below}
+use Rattle.order_theory.proofs.Weights.{length-list_sum, get_or-list_sum}
+use Rattle.order_theory.proofs.Theorems.{syndrome_sum, election_law, moved_on, step_law, syndrome_law, count_law, error_law}
+use Rattle.vote_core.specs.declared.ledger.VoteLine.{VoteLine}
+use Rattle.vote_core.specs.Ledgers.{line_of}
+use Rattle.vote_core.specs.Turns.{IsTurn}
+use Rattle.vote_core.proofs.Lines.{line_is, weight_of_zeros}
+
+-- a list of zeros
+pub zero_at : (e : List ℕ) (n : ℕ) → e ≡ replicate n 0 → (p : ℕ) → get_or e p 0 ≡ 0
+zero_at e n is p = ap (λ (xs : List ℕ). get_or xs p 0) is ∙ elim (cases_lt p n) [
+  | inl l ↦ get_or-replicate n p 0 0 l
+  | inr l ↦ get_or_past (replicate n 0) p 0 (omega (arith, length-replicate {A = ℕ} n 0))
+]
+
+pub zeros_of : (e : List ℕ) (n : ℕ) → e ≡ replicate n 0 → All (λ x. x ≡ 0) e
+zeros_of e n is p d l = sym (get_or_default e p 0 d l) ∙ zero_at e n is p
+
+module _ (b : Basis) (marks : List Bool) (t : ℕ) (y : List ℕ) (h : IsSoundBasis b) (yw : IsWord b.bits b.n y) where
+  -- a list with the right syndromes at the marked members is an error
+  pub error_from : (err : List ℕ) → IsWord b.bits b.n err → weight err ≤ t
+      → ((k : ℕ) → k < b.n → marked marks k ≡ true → syndrome (times b) b err k ≡ syndrome (times b) b y k) → IsErrorOf (times b) b marks t y err
+  error_from err ew light same =
+      let long : length y ≡ length err = yw.n_long ∙ sym ew.n_long in
+      record {
+        is_word = ew;
+        light = light;
+        corrects = record {
+          is_word = record {
+            n_long = length-list_sum y err long ∙ yw.n_long;
+            symbols = λ p d l. subst (λ (x : ℕ). x < 2 ^ b.bits) (sym (get_or-list_sum y err p long) ∙ get_or_default (list_sum y err) p 0 d l)
+                (xor_below (2 ^ b.bits) (times b) h.sound.field (get_or y p 0) (get_or err p 0) (word_below yw p) (word_below ew p));
+          };
+          orthogonal = λ k lk m.
+              syndrome_sum (times b) b h.sound (λ p. get_or y p 0) (λ p. get_or err p 0) (λ p. get_or (list_sum y err) p 0) k (λ p l. get_or-list_sum y err p long)
+              ∙ ap (λ (x : ℕ). bit_xor (syndrome (times b) b y k) x) (same k lk m) ∙ xor_self (syndrome (times b) b y k);
+        };
+      }
+
+  -- an error has them
+  pub error_agrees : (e : List ℕ) → IsErrorOf (times b) b marks t y e → (k : ℕ) → k < b.n → marked marks k ≡ true → syndrome (times b) b y k ≡ syndrome (times b) b e k
+  error_agrees e x k lk m =
+      xor_same (syndrome (times b) b y k) (syndrome (times b) b e k)
+      (sym (syndrome_sum (times b) b h.sound (λ p. get_or y p 0) (λ p. get_or e p 0) (λ p. get_or (list_sum y e) p 0) k (λ p l. get_or-list_sum y e p (yw.n_long ∙ sym x.is_word.n_long)))
+      ∙ x.corrects.orthogonal k lk m)
+
+  -- it is the only one
+  pub error_once : (e e' : List ℕ) → IsBound b marks (2 * t + 1) → IsErrorOf (times b) b marks t y e → IsErrorOf (times b) b marks t y e' → e ≡ e'
+  error_once e e' bound x x' = error_law (times b) b marks t (2 * t + 1) y e e' h.sound bound (omega arith) yw x.is_word x'.is_word x.corrects x'.corrects x.light x'.light
+
+  -- what is undamaged has the error of zeros
+  pub error_of_none : (e : List ℕ) (n : ℕ) → e ≡ replicate n 0 → n ≡ b.n → ((k : ℕ) → k < b.n → marked marks k ≡ true → syndrome (times b) b y k ≡ 0) → IsErrorOf (times b) b marks t y e
+  error_of_none e n is f zero =
+      error_from e (word_of_zeros e n is f) (let w : weight e ≡ 0 = weight_of_zeros e (zeros_of e n is) in omega arith)
+      (λ k lk m. syndrome_of_zeros e n is k ∙ sym (zero k lk m))
+    where
+      syndrome_of_zeros : (e : List ℕ) (n : ℕ) → e ≡ replicate n 0 → (k : ℕ) → syndrome (times b) b e k ≡ 0
+      syndrome_of_zeros e n is k = sum-zero b.n (λ p. times b (get_or e p 0) (vector b k p)) (λ p l. ap (λ (x : ℕ). times b x (vector b k p)) (zero_at e n is p) ∙ zero-mul (2 ^ b.bits) (times b) h.sound.field (vector b k p))
+
+      word_of_zeros : (e : List ℕ) (n : ℕ) → e ≡ replicate n 0 → n ≡ b.n → IsWord b.bits b.n e
+      word_of_zeros e n is f = record {
+        n_long = ap length is ∙ length-replicate n 0 ∙ f;
+        symbols = λ p d l. subst (λ (x : ℕ). x < 2 ^ b.bits) (sym (zeros_of e n is p d l)) (pow_pos b.bits);
+      }
+
+  -- a marked member: the working list has its syndrome already
+  pub same_marked : (e w : List ℕ) (k : ℕ) → IsErrorOf (times b) b marks t y e → k < b.n → marked marks k ≡ true → syndrome (times b) b w k ≡ syndrome (times b) b y k → SameBelow (times b) b e w k → SameBelow (times b) b e w (k + 1)
+  same_marked e w k x lk m kept same = record {
+    each = λ q l. elim (eq_or_below q k (let u : q < suc k = omega arith in u)) [
+      | inr u ↦ same.each q u
+      | inl f ↦ subst (λ (r : ℕ). syndrome (times b) b e r ≡ syndrome (times b) b w r) (sym f) (sym (error_agrees e x k lk m) ∙ sym kept)
+    ];
+  }
+
+  -- the end: the working list is the error
+  pub same_lists : (e w : List ℕ) (k : ℕ) → IsErrorOf (times b) b marks t y e → IsWord b.bits b.n w → k ≡ b.n → SameBelow (times b) b e w k → w ≡ e
+  same_lists e w k x ww f same = sym (syndrome_law (times b) b e w h.sound x.is_word ww (subst (λ (q : ℕ). SameBelow (times b) b e w q) f same))
+
+-- a move at k changes one syndrome alone
+module _ (b : Basis) (w w' : List ℕ) (k v : ℕ) (h : IsSoundBasis b) (lk : k < b.n) (symbol : v < 2 ^ b.bits) (moved : IsMoved (times b) b w k v w') where
+  pub moved_keeps : (m : ℕ) → m < b.n → m ≢ k → syndrome (times b) b w' m ≡ syndrome (times b) b w m
+  moved_keeps =
+      (step_law (times b) b w w' k (bit_xor v (syndrome (times b) b w k)) h.sound lk
+      (xor_below (2 ^ b.bits) (times b) h.sound.field v (syndrome (times b) b w k) symbol (syn_below (times b) b h.sound (λ p. get_or w p 0) k)) moved.each).1
+
+  pub moved_same : SameBelow (times b) b w w' k
+  moved_same = record { each = λ m l. sym (moved_keeps m (omega arith) (λ f. omega arith)) }
+
+-- a turn gives the working list the syndrome of the error, and its line is the error's
+module _ (b : Basis) (marks : List Bool) (t : ℕ) (y e w w' : List ℕ) (k : ℕ) (line : VoteLine) (h : IsSoundBasis b) (ww : IsWord b.bits b.n w) (lk : k < b.n) (turn : IsTurn b w k w' line)
+    (bound : IsBound b marks (2 * t + 1)) (free : marked marks k ≡ false) (x : IsErrorOf (times b) b marks t y e) (same : SameBelow (times b) b e w k) where
+  winner_is : turn.winner ≡ syndrome (times b) b e k
+  winner_is = let light : weight e ≤ t = x.light in election_law (times b) b e w k turn.winner h.sound x.is_word ww lk same (omega (arith, bound.at_most k lk free)) turn.elected
+
+  pub turn_right : SameBelow (times b) b e w' (k + 1)
+  turn_right = moved_on (times b) b h.sound e w w' k turn.winner lk turn.elected.symbol turn.moved same winner_is
+
+  pub turn_line : line ≡ line_of b e k
+  turn_line =
+      let counted : VotesCounted (times b) b e w k = count_law (times b) b e w k h.sound x.is_word ww lk same in
+      let right : line.right ≡ right_at (times b) b e k = turn.line_right ∙ ap (λ (v : ℕ). votes_at (times b) b w k v) winner_is ∙ counted.right_ones in
+      let wrong : line.wrong ≡ wrong_at (times b) b e k = omega (arith, turn.line_all, counted.all) in
+      line_is line (label b k) (pairs_at b k) (right_at (times b) b e k) (wrong_at (times b) b e k) turn.line_label turn.line_pairs right wrong
