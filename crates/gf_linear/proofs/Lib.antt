@@ -2,6 +2,7 @@ mod BitPasses
 pub mod Forms
 pub mod Found
 pub mod Joins
+pub mod Residues
 pub mod Sides
 pub mod Steps
 pub mod Views
