@@ -1,2 +1,4 @@
 pub mod FlatReads
 pub mod Marks
+pub mod ListSteps
+pub mod Stepping

@@ -4,6 +4,7 @@
 
 mod basis;
 mod checked;
+mod elimination;
 
 pub use basis::EvalBasis;
 pub use checked::{CheckRule, Checked};

@@ -4,7 +4,7 @@ use Rattle.std.proofs.Math.ListN.{set}
 use Rattle.std.proofs.lemmas.Bool.{cases_eq, cases_lt}
 use Rattle.std.proofs.lemmas.List.{length-set, get_or-set_same, get_or-set_other, get_or-replicate, get_or_past, length-replicate, set_past}
 use Rattle.std.proofs.lemmas.Nat.{pow_pos}
-use Rattle.gf_linear.specs.Matrix.{Matrix, IsOver, row, entry, zero_matrix, with_row, with_entry}
+use Rattle.gf_linear.specs.Matrix.{Matrix, IsMatrix, IsOver, row, entry, zero_matrix, with_row, with_entry}
 
 pub row-with_row : (m : Matrix) (i : ℕ) (r : List ℕ) → i < length m.rows → row (with_row m i r) i ≡ r
 row-with_row m i r l = get_or-set_same m.rows i r [] l
@@ -69,3 +69,26 @@ entry-zero_matrix rows cols i j = elim (cases_lt i rows) [
         | inr past ↦ get_or_past (replicate cols 0) j 0 (subst (λ (n : ℕ). n ≤ j) (sym (length-replicate cols 0)) past)
       ]
 ]
+
+-- and a matrix stays one
+pub matrix-with_row : (m : Matrix) (i : ℕ) (r : List ℕ) → IsMatrix m → length r ≡ m.cols → IsMatrix (with_row m i r)
+matrix-with_row m i r h e = record {
+  few_rows = subst (λ (n : ℕ). n ≤ 1024) (sym (length-with_row m i r)) h.few_rows;
+  few_cols = h.few_cols;
+  width = λ q l.
+      let lq : q < length m.rows = subst (λ (n : ℕ). q < n) (length-with_row m i r) l in
+      elim (cases_eq q i) [
+        | inr d ↦ ap length (row-with_row_other m i q r d) ∙ h.width q lq
+        | inl f ↦ subst (λ (s : ℕ). length (row (with_row m i r) s) ≡ m.cols) (sym f) (ap length (row-with_row m i r (subst (λ (s : ℕ). s < length m.rows) f lq)) ∙ e)
+      ];
+}
+
+pub matrix-with_entry : (m : Matrix) (i j v : ℕ) → IsMatrix m → i < length m.rows → IsMatrix (with_entry m i j v)
+matrix-with_entry m i j v h l = matrix-with_row m i (set (row m i) j v) h (length-set (row m i) j v ∙ h.width i l)
+
+pub matrix-zero_matrix : (rows cols : ℕ) → rows ≤ 1024 → cols ≤ 2048 → IsMatrix (zero_matrix rows cols)
+matrix-zero_matrix rows cols few_rows few_cols = record {
+  few_rows = subst (λ (n : ℕ). n ≤ 1024) (sym (length-replicate rows (replicate cols 0))) few_rows;
+  few_cols = few_cols;
+  width = λ i l. ap length (get_or-replicate rows i (replicate cols 0) [] (subst (λ (n : ℕ). i < n) (length-replicate rows (replicate cols 0)) l)) ∙ length-replicate cols 0;
+}
