@@ -2,3 +2,4 @@ pub mod FlatReads
 pub mod Marks
 pub mod ListSteps
 pub mod Stepping
+pub mod Finding

@@ -1,3 +1,4 @@
 pub mod Stored
 pub mod Rules
 pub mod Lists
+pub mod Found

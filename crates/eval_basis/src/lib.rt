@@ -5,6 +5,7 @@
 mod basis;
 mod checked;
 mod elimination;
+mod members;
 
 pub use basis::EvalBasis;
 pub use checked::{CheckRule, Checked};

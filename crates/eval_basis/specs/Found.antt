@@ -1,0 +1,29 @@
+-- AreStored     the values of the functions with these indices at the points, row by row
+-- AreMembers    the members: the indices of the functions that are no combination of the functions before them, as many as
+--               there are points, with their values, and lists that are dual to these
+use Rattle.std.specs.Prelude.{◌≡◌, ◌≢◌, ℕ, ◌+◌, ◌*◌, ◌^◌, ◌<◌, List, length, slice_index, All}
+use Rattle.field_theory.specs.Sums.{unit}
+use Rattle.gf_theory.specs.Field.{gf_mul}
+use Rattle.linear_theory.specs.Linear.{dot, IsCombination}
+use Rattle.gf_linear.specs.Matrix.{Matrix, entry}
+use Rattle.order_domain.specs.declared.Point.{Point}
+use Rattle.order_domain.specs.Domain.{Domain}
+use Rattle.order_domain.specs.Values.{value_at}
+use Rattle.eval_basis.specs.Lists.{AreLists}
+
+pub record AreStored (d : Domain) (modulus : ℕ) (points : List Point) (ranks vectors : List ℕ) : Type 0 where
+  pub n_vectors : length vectors ≡ length ranks * length points
+  pub values : (k p : ℕ) → k < length ranks → p < length points → slice_index vectors (k * length points + p) ≡ value_at d modulus points (slice_index ranks k) p
+
+pub record AreMembers (d : Domain) (modulus : ℕ) (points : List Point) (ranks vectors : List ℕ) (lists : Matrix) : Type 0 where
+  pub n_ranks : length ranks ≡ length points
+  pub below : (k : ℕ) → k < length points → slice_index ranks k < d.count
+  pub rising : (j k : ℕ) → j < k → k < length points → slice_index ranks j < slice_index ranks k
+  pub fresh : (k : ℕ) → k < length points →
+      IsCombination (gf_mul d.bits modulus) (length points) (value_at d modulus points) (slice_index ranks k) (value_at d modulus points (slice_index ranks k)) → ⊥
+  pub others : (i : ℕ) → i < d.count → ((k : ℕ) → k < length points → i ≢ slice_index ranks k) →
+      IsCombination (gf_mul d.bits modulus) (length points) (value_at d modulus points) i (value_at d modulus points i)
+  pub stored : AreStored d modulus points ranks vectors
+  pub are_lists : AreLists d.bits (length points) lists
+  pub dual : (k q : ℕ) → k < length points → q < length points →
+      dot (gf_mul d.bits modulus) (length points) (value_at d modulus points (slice_index ranks k)) (entry lists q) ≡ unit k q
