@@ -2,3 +2,4 @@ pub mod Stored
 pub mod Rules
 pub mod Lists
 pub mod Found
+pub mod Flat

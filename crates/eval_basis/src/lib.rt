@@ -6,6 +6,7 @@ mod basis;
 mod checked;
 mod elimination;
 mod members;
+mod tables;
 
 pub use basis::EvalBasis;
 pub use checked::{CheckRule, Checked};

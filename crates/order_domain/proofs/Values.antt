@@ -1,6 +1,6 @@
 -- The values of the functions of a domain at distinct points: where they are read, and that they are those of ordered functions
 use Rattle.std.proofs.Common.{◌≡◌, ◌⊎◌, ℕ, ◌<◌, ◌≤◌, ◌^◌, Bool, true, false, cond, ltb, ◌&&◌, IsTrue, Option, Some, None, is_some, unwrap_or, List, length, sym, ◌∙◌, ap, refl, inl, inr, arith, bit_xor}
-use Rattle.std.proofs.lemmas.Bool.{cond-true, and_from, and_parts, lt-ltb, ltb-true}
+use Rattle.std.proofs.lemmas.Bool.{cond-true, cond-false, and_from, and_parts, lt-ltb, ltb-true}
 use Rattle.field_theory.specs.Field.{IsField}
 use Rattle.field_theory.specs.Sums.{xor_sum, unit}
 use Rattle.field_theory.proofs.Sums.{sum-same, mul_one, zero_below}
@@ -60,6 +60,16 @@ lead_at-is d modulus i j s li lj e =
     cond-true (ltb i d.count && ltb j d.count && is_some (d.sum i j)) (d.lead modulus i j) 0
     (and_from (ltb i d.count && ltb j d.count) (is_some (d.sum i j))
     (and_from (ltb i d.count) (ltb j d.count) (lt-ltb i d.count li) (lt-ltb j d.count lj)) (ap is_some e))
+
+pub lead_at-none : (d : Domain) (modulus i j : ℕ) → d.sum i j ≡ None → lead_at d modulus i j ≡ 0
+unfolding lead_at
+lead_at-none d modulus i j e =
+    cond-false (ltb i d.count && ltb j d.count && is_some (d.sum i j)) (d.lead modulus i j) 0
+    (ap (λ (o : Option ℕ). ltb i d.count && ltb j d.count && is_some o) e ∙ and_false (ltb i d.count && ltb j d.count))
+  where
+    and_false : (b : Bool) → (b && false) ≡ false
+    and_false true = refl
+    and_false false = refl
 
 module _ (d : Domain) (modulus : ℕ) (points : List Point) (lawful : IsOrderDomain d) (is_modulus : IsModulus d.bits modulus) (are : ArePoints d modulus points) where
   pub field_of_domain : IsField (2 ^ d.bits) (gf_mul d.bits modulus)
