@@ -118,3 +118,94 @@ impl OrderDomain for CabDomain {
         self.curve.holds(f, p)
     }
 }
+
+#[cfg(test)]
+mod tests {
+    use super::*;
+    use gf_field::PolyField;
+
+    // y^2 + y = x^3
+    const CUBIC: [Term; 3] = [
+        Term { i: 0, j: 2, c: 1 },
+        Term { i: 0, j: 1, c: 1 },
+        Term { i: 3, j: 0, c: 1 },
+    ];
+
+    // 2·y^2 + y = x^3
+    const SCALED: [Term; 3] = [
+        Term { i: 0, j: 2, c: 2 },
+        Term { i: 0, j: 1, c: 1 },
+        Term { i: 3, j: 0, c: 1 },
+    ];
+
+    // The label of each function, and its values at those of the points that are on the domain.
+    fn evaluations<F: Field, D: OrderDomain>(alloc: Global, f: &F, d: &D, points: &[Point]) -> Result<Vec<(u32, Vec<u8>)>, AllocError>
+        requires { F.bits_of f.now ≡ (D.domain d.now).bits }
+    {
+        let mut rows = Vec::new(alloc);
+        for i in 0..d.count() {
+            let mut row = Vec::new(alloc);
+            for p in points {
+                if d.on(f, p) {
+                    row.push(d.eval(f, i, p))?;
+                }
+            }
+            rows.push((d.label(i), row))?;
+        }
+        Ok(rows)
+    }
+
+    // The lead of the square of each function, and the index of that square; (0, count) where the domain does not list it.
+    fn squares<F: Field, D: OrderDomain>(alloc: Global, f: &F, d: &D) -> Result<Vec<(u8, u32)>, AllocError>
+        requires { F.bits_of f.now ≡ (D.domain d.now).bits }
+    {
+        let mut squares = Vec::new(alloc);
+        for i in 0..d.count() {
+            match d.sum(i, i) {
+                Some(s) => squares.push((d.lead(f, i, i), s))?,
+                None => squares.push((0, d.count()))?,
+            }
+        }
+        Ok(squares)
+    }
+
+    #[test]
+    fn evaluates_the_functions_of_a_cubic(rt: HostRuntime) {
+        let alloc = rt.alloc();
+        let f = PolyField::new(2, 7).expect(&rt, "irreducible");
+        let curve = Curve::new(alloc, &f, 2, 3, &CUBIC).expect(&rt, "a curve");
+        let points = curve.all_points(alloc, &f).expect(&rt, "memory");
+        let domain = CabDomain::new(alloc, curve, 2).expect(&rt, "memory");
+        let expected: [(u32, [u8; 8]); 9] = [
+            (0, [1, 1, 1, 1, 1, 1, 1, 1]),
+            (2, [0, 0, 1, 1, 2, 2, 3, 3]),
+            (3, [0, 1, 2, 3, 2, 3, 2, 3]),
+            (4, [0, 0, 1, 1, 3, 3, 2, 2]),
+            (5, [0, 0, 2, 3, 3, 1, 1, 2]),
+            (6, [0, 0, 1, 1, 1, 1, 1, 1]),
+            (7, [0, 0, 2, 3, 1, 2, 3, 1]),
+            (8, [0, 0, 1, 1, 2, 2, 3, 3]),
+            (9, [0, 0, 2, 3, 2, 3, 2, 3]),
+        ];
+        let rows = evaluations(alloc, &f, &domain, &points).expect(&rt, "memory");
+        assert_eq!(rt; rows.len(), expected.len());
+        for ((label, values), (expected_label, expected_values)) in rows.iter().zip(expected.iter()) {
+            assert_eq!(rt; label, expected_label);
+            assert_eq!(rt; values.as_slice(), &expected_values[..]);
+        }
+        // the functions 1, x and y have squares of weight 0, 4 and 6, and so on up to x^2
+        let expected = [(1, 0), (1, 3), (1, 5), (1, 7), (0, 9), (0, 9), (0, 9), (0, 9), (0, 9)];
+        assert_eq!(rt; squares(alloc, &f, &domain).expect(&rt, "memory").as_slice(), &expected[..]);
+    }
+
+    // On this curve y^2 is 3·x^3 + 3·y, since 2·3 is 1.
+    #[test]
+    fn leads_by_the_coefficients_of_the_equation(rt: HostRuntime) {
+        let alloc = rt.alloc();
+        let f = PolyField::new(2, 7).expect(&rt, "irreducible");
+        let curve = Curve::new(alloc, &f, 2, 3, &SCALED).expect(&rt, "a curve");
+        let domain = CabDomain::new(alloc, curve, 2).expect(&rt, "memory");
+        let expected = [(1, 0), (1, 3), (3, 5), (1, 7), (0, 9), (0, 9), (0, 9), (0, 9), (0, 9)];
+        assert_eq!(rt; squares(alloc, &f, &domain).expect(&rt, "memory").as_slice(), &expected[..]);
+    }
+}
