@@ -5,6 +5,7 @@ use Rattle.std.specs.Option.{option_copied}
 use Rattle.std.proofs.lemmas.List.{get_or_default}
 use Rattle.std.proofs.lemmas.Bool.{cases_lt, cond-true, cond-false, and_parts, ltb-true, lt-ltb, le-ltb, le-leb, lt-leb}
 use Rattle.std.proofs.lemmas.List.Elements.{recursion_from_All}
+use Rattle.field_theory.specs.Field.{IsField}
 use Rattle.field_theory.proofs.Counts.{count_below-le}
 use Rattle.gf_theory.specs.Field.{IsModulus, gf_mul}
 use Rattle.gf_theory.proofs.Fields.{field_of_modulus}
@@ -20,6 +21,9 @@ use Rattle.cab_curve.specs.Equation.{Equation, IsCurve}
 use Rattle.cab_curve.specs.Points.{is_on_curve}
 use Rattle.cab_curve.specs.Functions.{IsFunctionTable}
 use Rattle.cab_curve.specs.Domain.{top_of}
+
+pub field_of : (bits modulus : ℕ) → IsModulus bits modulus → IsField (2 ^ bits) (gf_mul bits modulus)
+field_of bits modulus h = let two : 2 ≤ bits = h.at_least_two in field_of_modulus bits modulus (omega arith) h.irreducible
 
 pub top_of-few : (e : Equation) → IsCurve e → top_of e < 10000
 top_of-few e h = search rules
@@ -43,8 +47,7 @@ on_curve-symbols bits modulus ts p h =
 -- the coefficients of an equation are symbols
 pub lead-symbol : (e : Equation) → IsCurve e → (modulus : ℕ) → IsModulus e.bits modulus → (i j : ℕ) → coefficient e.terms i j < 2 ^ e.bits
 lead-symbol e h modulus m i j =
-    let two : 2 ≤ e.bits = m.at_least_two in
-    coefficient_below (2 ^ e.bits) (gf_mul e.bits modulus) (field_of_modulus e.bits modulus (omega arith) m.irreducible) e.terms
+    coefficient_below (2 ^ e.bits) (gf_mul e.bits modulus) (field_of e.bits modulus m) e.terms
     (all_weaken (λ t. (0 < t.c) × (t.c < 2 ^ e.bits)) (λ t. t.c < 2 ^ e.bits) (λ t p. p.1) e.terms (recursion_from_All (λ t. (0 < t.c) × (t.c < 2 ^ e.bits)) e.terms h.equation.symbols)) i j
 
 pub low_lead : (size : ℕ) (mul : ℕ → ℕ → ℕ) (a b : ℕ) (ts : List Term) (u v : ℕ) → y_exponent a b u + y_exponent a b v < a → 1 ≡ lead_of size mul a b ts u v
@@ -58,9 +61,8 @@ unfolding lead_of
 high_lead e modulus u v r h m l small one =
     let size : ℕ = 2 ^ e.bits in
     let mul : ℕ → ℕ → ℕ = gf_mul e.bits modulus in
-    let two : 2 ≤ e.bits = m.at_least_two in
     let is : inverse_of (2 ^ e.bits) (gf_mul e.bits modulus) (coefficient e.terms 0 e.a) ≡ r =
-    inverse_of-is (2 ^ e.bits) (gf_mul e.bits modulus) (field_of_modulus e.bits modulus (omega arith) m.irreducible) (coefficient e.terms 0 e.a) r
+    inverse_of-is (2 ^ e.bits) (gf_mul e.bits modulus) (field_of e.bits modulus m) (coefficient e.terms 0 e.a) r
     (lead-symbol e h modulus m 0 e.a) h.equation.y_lead small one in
     ap (λ (y : ℕ). mul (coefficient e.terms e.b 0) y) (sym is)
     ∙ sym (cond-false (ltb (y_exponent e.a e.b u + y_exponent e.a e.b v) e.a) 1 (mul (coefficient e.terms e.b 0) (inverse_of size mul (coefficient e.terms 0 e.a)))

@@ -4,3 +4,6 @@ pub mod Rows
 pub mod Accepted
 pub mod Tables
 pub mod Calls
+pub mod Sums
+pub mod Relations
+pub mod NormalLists

@@ -4,3 +4,5 @@ pub mod Points
 pub mod Functions
 pub mod Domain
 pub mod DomainLaws
+pub mod NormalForms
+pub mod Relation

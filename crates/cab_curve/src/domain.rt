@@ -9,7 +9,8 @@ ghost use Rattle.cab_curve.specs.Domain.{top_of, cab_domain};
 
 use crate::functions::{Function, FunctionTable, functions_up_to};
 use crate::power::monomial;
-use crate::{Curve, Point, Term};
+use crate::relation::coefficient;
+use crate::{Curve, Point};
 use gf_field::Field;
 use order_domain::OrderDomain;
 use std::alloc::{AllocError, Global};
@@ -28,19 +29,6 @@ pub struct CabDomain {
     ghost tables: { IsFunctionTable curve.a curve.b (top_of curve) functions.rows.items functions.places.items },
     ghost x_lead_is: { x_lead ≡ coefficient curve.terms curve.b 0 },
     ghost y_lead_is: { y_lead ≡ coefficient curve.terms 0 curve.a },
-}
-
-// The sum of the coefficients of the terms with the exponents i and j.
-fn coefficient(terms: &[Term], i: u32, j: u32) -> u8
-    ensures { result ≡ coefficient terms.now i j }
-{
-    let mut sum = 0;
-    for term in terms {
-        if term.i == i && term.j == j {
-            sum ^= term.c;
-        }
-    }
-    sum
 }
 
 impl CabDomain {
@@ -122,6 +110,7 @@ impl OrderDomain for CabDomain {
 #[cfg(test)]
 mod tests {
     use super::*;
+    use crate::Term;
     use gf_field::PolyField;
 
     // y^2 + y = x^3

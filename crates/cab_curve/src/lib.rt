@@ -7,12 +7,15 @@
 mod domain;
 mod equation;
 mod functions;
+mod normal;
 mod points;
 mod power;
+mod relation;
 
 pub use curve_theory::Term;
 pub use domain::CabDomain;
 pub use equation::{Curve, CurveFault};
+pub use normal::{NormTerm, Normal};
 pub use order_domain::Point;
 pub use power::monomial;
 

@@ -11,7 +11,7 @@ use Rattle.curve_theory.specs.Semigroup.{is_member, x_exponent, y_exponent}
 use Rattle.curve_theory.specs.Curve.{Term, coefficient, IsEquation}
 use Rattle.curve_theory.specs.Normal.{weight_coefficient, times_monomial, relation, times_y}
 use Rattle.curve_theory.specs.Polynomial.{IsPolynomial, one, shift_x, shift_y, times_terms, IsSameModulo, by_weights, IsNormalForm}
-use Rattle.curve_theory.specs.Weights.{one_by_weights, times_x_by_weights, y_times_function, times_y_by_weights}
+use Rattle.curve_theory.specs.Weights.{one_by_weights, times_x_by_weights, y_times_monomial, y_times_function, times_y_by_weights}
 use Rattle.curve_theory.proofs.Semigroup.{exponents-weight, weight-exponents, y_exponent-lt}
 use Rattle.field_theory.proofs.Sums.{sum-same, sum-xor, sum-zero, sum-only, mul-zero, zero-mul, xor_mul, mul_left_comm, zero_below, mul_one}
 use Rattle.curve_theory.proofs.Normal.{IsNormalTerm, AreNormal, all_append, all_weaken, cond_ne, cond_eq, weight_coefficient-append, weight_coefficient-times_monomial, weight_coefficient_below, times_monomial-normal, times_y-normal}
@@ -175,26 +175,20 @@ module _ (size : ℕ) (mul : ℕ → ℕ → ℕ) (field : IsField size mul) whe
       ∙ ap (λ q. bit_xor (mul c W) q)
       (mul-cond (eqb (a * (i + t.i) + b * t.j) w) c (mul 1 t.c) ∙ ap (λ q. cond (eqb (a * (i + t.i) + b * t.j) w) q 0) (mul-one_mul c t.c))
 
-  -- y times a function, in the two cases
-  pub y_times_function-more : (a b v c w : ℕ) (r : List Term) → c < size → is_member a b v ≡ true → suc (y_exponent a b v) < a →
-      mul c (weight_coefficient a b (y_times_function mul a b r v) w) ≡ cond (eqb (v + b) w) c 0
-  y_times_function-more a b v c w r l m h =
-      let x : ℕ = x_exponent a b v in
-      let y : ℕ = y_exponent a b v in
-      let e : a * x + b * suc y ≡ v + b = (let q : a * x + b * y ≡ v = weight-exponents a b v m in let s : a * x + b * suc y ≡ v + b = omega arith in s) in
-      sym (times_y-factor a b r x y c w l)
-      ∙ ap (λ z. weight_coefficient a b z w) (cond-true (ltb (suc y) a) (term x (suc y) c ∷ []) (times_monomial mul x 0 c r) (lt-ltb (suc y) a h))
-      ∙ xor_zero_r (cond (eqb (a * x + b * suc y) w) c 0)
-      ∙ ap (λ z. cond (eqb z w) c 0) e
+  -- y times a monomial, in the two cases
+  pub y_times_monomial-more : (a b i j c w : ℕ) (r : List Term) → c < size → suc j < a →
+      mul c (weight_coefficient a b (y_times_monomial mul a r i j) w) ≡ cond (eqb (a * i + b * suc j) w) c 0
+  y_times_monomial-more a b i j c w r l h =
+      sym (times_y-factor a b r i j c w l)
+      ∙ ap (λ z. weight_coefficient a b z w) (cond-true (ltb (suc j) a) (term i (suc j) c ∷ []) (times_monomial mul i 0 c r) (lt-ltb (suc j) a h))
+      ∙ xor_zero_r (cond (eqb (a * i + b * suc j) w) c 0)
 
-  pub y_times_function-top : (a b v w : ℕ) (r : List Term) → a ≤ suc (y_exponent a b v) →
-      weight_coefficient a b (y_times_function mul a b r v) w ≡ weight_coefficient a b (times_monomial mul (x_exponent a b v) 0 1 r) w
-  y_times_function-top a b v w r h =
-      let x : ℕ = x_exponent a b v in
-      let y : ℕ = y_exponent a b v in
-      let front : List Term = cond (ltb (suc y) a) (term x (suc y) 1 ∷ []) (times_monomial mul x 0 1 r) in
+  pub y_times_monomial-top : (a b i j w : ℕ) (r : List Term) → a ≤ suc j →
+      weight_coefficient a b (y_times_monomial mul a r i j) w ≡ weight_coefficient a b (times_monomial mul i 0 1 r) w
+  y_times_monomial-top a b i j w r h =
+      let front : List Term = cond (ltb (suc j) a) (term i (suc j) 1 ∷ []) (times_monomial mul i 0 1 r) in
       weight_coefficient-append a b front [] w ∙ xor_zero_r (weight_coefficient a b front w)
-      ∙ ap (λ z. weight_coefficient a b z w) (cond-false (ltb (suc y) a) (term x (suc y) 1 ∷ []) (times_monomial mul x 0 1 r) (le-ltb (suc y) a h))
+      ∙ ap (λ z. weight_coefficient a b z w) (cond-false (ltb (suc j) a) (term i (suc j) 1 ∷ []) (times_monomial mul i 0 1 r) (le-ltb (suc j) a h))
 
   -- x times a multiple
   shift_x_test : (si sj sc : ℕ) (p : ℕ → ℕ → ℕ) (i j : ℕ) →

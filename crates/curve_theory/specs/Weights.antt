@@ -2,6 +2,7 @@
 --
 -- one_by_weights         the normal form of 1
 -- times_x_by_weights     x times a normal form
+-- y_times_monomial       y times x^i·y^j, for a j below a, as terms
 -- y_times_function       y times the function of weight v, as terms
 -- times_y_by_weights     y times a normal form
 use Rattle.std.specs.Prelude.{ℕ, suc, ◌-◌, List, [], ◌∷◌, cond, eqb, leb}
@@ -18,9 +19,12 @@ one_by_weights w = cond (eqb w 0) 1 0
 abbrev pub times_x_by_weights : (a : ℕ) → (ℕ → ℕ) → ℕ → ℕ
 times_x_by_weights a c w = cond (leb a w) (c (w - a)) 0
 
--- y times the function of weight v, as terms; r is the relation
+-- r is the relation
+abbrev pub y_times_monomial : (mul : ℕ → ℕ → ℕ) (a : ℕ) → List Term → (i j : ℕ) → List Term
+y_times_monomial mul a r i j = times_y mul a r (record { i = i; j = j; c = 1 } ∷ [])
+
 abbrev pub y_times_function : (mul : ℕ → ℕ → ℕ) (a b : ℕ) → List Term → ℕ → List Term
-y_times_function mul a b r v = times_y mul a r (record { i = x_exponent a b v; j = y_exponent a b v; c = 1 } ∷ [])
+y_times_function mul a b r v = y_times_monomial mul a r (x_exponent a b v) (y_exponent a b v)
 
 -- y times c, where c is 0 above n
 abbrev pub times_y_by_weights : (mul : ℕ → ℕ → ℕ) (a b : ℕ) → List Term → (n : ℕ) → (ℕ → ℕ) → ℕ → ℕ
