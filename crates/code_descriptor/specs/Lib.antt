@@ -1,0 +1,4 @@
+pub mod FieldTest
+pub mod Tree
+pub mod Meaning
+pub mod Views

@@ -1,0 +1,77 @@
+//! From the integers of a text to a descriptor.
+
+ghost use Rattle.std.specs.Prelude.{◌≡◌, ℕ, ◌≤◌, true, false, IfOk, IfSome, MatchOption, MatchResult, None};
+ghost use Rattle.weight_semi.specs.Generators.{AreGenerators};
+ghost use Rattle.cab_curve.specs.First.{first_of};
+ghost use Rattle.code_descriptor.specs.FieldTest.{is_modulus};
+ghost use Rattle.code_descriptor.specs.Meaning.{nat, is_from_to, is_field, are_degrees, parts, named_refusals};
+ghost use Rattle.code_descriptor.specs.Views.{parts_of, named_of, IsDescriptor, IsRefusal};
+
+use crate::curves::curve_of;
+use crate::keys::NamedParts;
+use crate::points::points_of;
+use crate::{DescCause, DescError, Descriptor};
+use gf_field::PolyField;
+use std::alloc::Global;
+use weight_semi::Semi;
+
+/// The integer, where it is from `low` to `high`.
+pub fn within(z: i64, low: u32, high: u32) -> Option<u32>
+    ensures test { MatchOption result (is_from_to low high z ≡ false) (λ n. (is_from_to low high z ≡ true) × (n ≡ nat z)) }
+    ensures range { IfSome result (λ n. (low ≤ n) × (n ≤ high)) }
+{
+    if i64::from(low) <= z && z <= i64::from(high) {
+        Some(z as u32)
+    } else {
+        None
+    }
+}
+
+// The field of these bits and this modulus, by the test of them.
+fn new_field(bits: u32, modulus: u32) -> Option<PolyField>
+    ensures { MatchOption result (is_modulus bits modulus ≡ false) (λ f. (is_modulus bits modulus ≡ true) × (f.bits ≡ bits) × (f.modulus ≡ modulus)) }
+{
+    PolyField::new(bits, modulus)
+}
+
+// The field of two integers.
+#[tactic(auto, unfolding(crate::specs::Meaning::is_field))]
+fn field_of(bits: i64, modulus: i64) -> Option<PolyField>
+    ensures { MatchOption result (is_field bits modulus ≡ false) (λ f. (is_field bits modulus ≡ true) × (f.bits ≡ nat bits) × (f.modulus ≡ nat modulus)) }
+{
+    let bits = within(bits, 0, u32::MAX)?;
+    let modulus = within(modulus, 0, u32::MAX)?;
+    new_field(bits, modulus)
+}
+
+// The weights of x and y, where they are those of a curve.
+#[tactic(auto, unfolding(crate::specs::Meaning::are_degrees))]
+fn degrees_of(a: i64, b: i64) -> Option<Semi>
+    ensures { MatchOption result (are_degrees a b ≡ false) (λ s. (are_degrees a b ≡ true) × (s.a ≡ nat a) × (s.b ≡ nat b)) }
+{
+    let a = within(a, 0, u32::MAX)?;
+    let b = within(b, 0, u32::MAX)?;
+    Semi::new(a, b)
+}
+
+/// What stands at the keys describes, or the first cause that refuses it.
+#[tactic(auto, unfolding(crate::specs::Meaning::named_refusals))]
+pub fn descriptor(alloc: Global, named: &NamedParts) -> Result<Descriptor, DescError>
+    ensures meaning { MatchResult result (λ d. (first_of (named_refusals (named_of named.now)) ≡ None) × (parts_of d ≡ parts (named_of named.now)))
+        (λ e. IsRefusal e (first_of (named_refusals (named_of named.now)))) }
+    ensures descriptor { IfOk result IsDescriptor }
+{
+    let field = field_of(named.bits, named.modulus).ok_or(DescCause::BadField)?;
+    let degrees = degrees_of(named.a, named.b).ok_or(DescCause::BadDegrees)?;
+    let curve = curve_of(alloc, &field, degrees, &named.terms)?;
+    let points = points_of(alloc, &field, &curve, &named.points)?;
+    let weight = within(named.weight, 0, 65_535).ok_or(DescCause::BadWeight)?;
+    let depth = within(named.depth, 1, 64).ok_or(DescCause::BadDepth)?;
+    Ok(Descriptor {
+        field,
+        curve,
+        points,
+        weight,
+        depth,
+    })
+}

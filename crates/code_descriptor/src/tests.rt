@@ -1,0 +1,195 @@
+use super::{DescCause, DescError, KeyName, read};
+use cab_curve::{Curve, Term};
+use gf_field::{Field, PolyField};
+use std::alloc::Global;
+use std::process::Abort;
+use std::test::Fail;
+
+// y² + y = x³ over GF(4)
+const A: &str =
+    "bits = 2\nmodulus = 7\na = 2\nb = 3\nterms = [[0, 2, 1], [0, 1, 1], [3, 0, 1]]\npoints = [[0, 0], [0, 1], [1, 2], [1, 3], [2, 2], [2, 3], [3, 2], [3, 3]]\nweight = 5\ndepth = 1\n";
+
+fn key(key: KeyName) -> DescCause {
+    DescCause::BadKey { key }
+}
+
+fn term(index: u32) -> DescCause {
+    DescCause::BadTerm { index }
+}
+
+fn point(index: u32) -> DescCause {
+    DescCause::BadPoint { index }
+}
+
+fn cause(rt: &impl Abort, alloc: Global, text: &[u8]) -> Option<DescCause> {
+    match read(alloc, text).err()? {
+        DescError::Refused { cause } => Some(cause),
+        DescError::NoMemory => {
+            assert!(rt; false, "want of memory");
+            None
+        }
+    }
+}
+
+#[test]
+fn reads_a_descriptor(rt: HostRuntime) -> Result<(), Fail> {
+    let d = read(rt.alloc(), A.as_bytes())?;
+    assert_eq!(rt; (d.field.bits(), d.field.modulus()), (2, 7));
+    assert_eq!(rt;
+        (
+            d.curve.bits(),
+            d.curve.a(),
+            d.curve.b(),
+            d.curve.terms().len()
+        ),
+        (2, 2, 3, 3)
+    );
+    assert_eq!(rt;
+        d.points.as_slice(),
+        d.curve.all_points(rt.alloc(), &d.field)?.as_slice()
+    );
+    assert_eq!(rt; (d.weight, d.depth), (5, 1));
+    Ok(())
+}
+
+#[test]
+fn refuses_in_order(rt: HostRuntime) -> Result<(), Fail> {
+    let alloc = rt.alloc();
+    // What to replace in A, by what, and the cause.
+    let cases = [
+        (A, "", key(KeyName::Bits)),
+        ("bits = 2\n", "", key(KeyName::Bits)),
+        ("bits = 2", "bits = 2.0", key(KeyName::Bits)),
+        ("bits = 2", "bits = \"2\"", key(KeyName::Bits)),
+        ("modulus = 7", "modulus = \"7\"", key(KeyName::Modulus)),
+        ("a = 2", "a = [2]", key(KeyName::A)),
+        ("b = 3\n", "", key(KeyName::B)),
+        ("[[0, 2, 1], ", "[[0, 2], ", key(KeyName::Terms)),
+        ("[[0, 2, 1], ", "[[0, 2, 1, 1], ", key(KeyName::Terms)),
+        ("[[0, 2, 1], ", "[7, ", key(KeyName::Terms)),
+        ("[[0, 2, 1], ", "[[0, 2, true], ", key(KeyName::Terms)),
+        ("[[0, 0], ", "[[0, 0, 0], ", key(KeyName::Points)),
+        ("[[0, 0], ", "[[0], ", key(KeyName::Points)),
+        ("weight = 5", "weight = 1e3", key(KeyName::Weight)),
+        ("depth = 1\n", "", key(KeyName::Depth)),
+        (
+            "depth = 1\n",
+            "depth = 1\nimproved = 3\n",
+            key(KeyName::Unknown),
+        ),
+        (
+            "bits = 2\n",
+            "bits = 2\nother = 3\nnested = [[[]]]\n",
+            key(KeyName::Unknown),
+        ),
+        ("bits = 2\n", "bits = 2\nbits = 2\n", DescCause::NotToml),
+        (A, "bits = ", DescCause::NotToml),
+        (
+            "bits = 2\n",
+            "bits = 9223372036854775808\n",
+            DescCause::NotToml,
+        ),
+        ("bits = 2\n", "bits = -2\n", DescCause::BadField),
+        ("bits = 2\n", "bits = 4294967298\n", DescCause::BadField),
+        ("modulus = 7", "modulus = 5", DescCause::BadField),
+        ("a = 2", "a = -2", DescCause::BadDegrees),
+        ("a = 2", "a = 3", DescCause::BadDegrees),
+        ("a = 2\nb = 3", "a = 4\nb = 6", DescCause::BadDegrees),
+        ("b = 3", "b = 33", DescCause::BadDegrees),
+        ("[[0, 2, 1], ", "[[1, 2, 1], [0, 2, 1], ", term(0)),
+        ("[[0, 2, 1], ", "[[0, 2, 0], ", term(0)),
+        ("[[0, 2, 1], ", "[[0, 2, 4], ", term(0)),
+        ("[0, 1, 1]", "[0, 1, 257]", term(1)),
+        ("[0, 1, 1]", "[0, 1, -1]", term(1)),
+        ("[0, 1, 1]", "[-1, 1, 1]", term(1)),
+        ("[0, 1, 1]", "[0, 4294967296, 1]", term(1)),
+        ("[0, 1, 1]", "[9223372036854775807, 1, 1]", term(1)),
+        ("[3, 0, 1]]", "[3, 0, 1], [0, 1, 2]]", term(3)),
+        (", [3, 0, 1]]", "]", DescCause::MissingLead),
+        (", [3, 0, 1]]", ", [-3, 0, 1]]", term(2)),
+        ("[1, 2]", "[1, 1]", point(2)),
+        ("[[0, 0], ", "[[0, 0], [0, 0], ", point(1)),
+        ("[3, 3]]", "[3, 3], [4, 0]]", point(8)),
+        ("[1, 2]", "[-1, 2]", point(2)),
+        ("weight = 5", "weight = -1", DescCause::BadWeight),
+        ("weight = 5", "weight = 65536", DescCause::BadWeight),
+        ("depth = 1\n", "depth = 0\n", DescCause::BadDepth),
+        ("depth = 1\n", "depth = 65\n", DescCause::BadDepth),
+        (
+            "weight = 5\ndepth = 1\n",
+            "weight = -1\ndepth = 0\n",
+            DescCause::BadWeight,
+        ),
+        (
+            "bits = 2\nmodulus = 7\na = 2\n",
+            "bits = -1\nmodulus = 7\na = 2.0\n",
+            key(KeyName::A),
+        ),
+    ];
+    for (old, new, expected) in cases {
+        let text = A.replace(alloc, old, new)?;
+        assert!(rt; text.as_str() != A);
+        assert_eq!(rt; cause(&rt, alloc, text.as_bytes()), Some(expected), "{new}");
+    }
+    Ok(())
+}
+
+#[test]
+fn accepts_the_edges(rt: HostRuntime) -> Result<(), Fail> {
+    let alloc = rt.alloc();
+    let cases = [
+        (
+            "[[0, 0], [0, 1], [1, 2], [1, 3], [2, 2], [2, 3], [3, 2], [3, 3]]",
+            "[]",
+        ),
+        ("weight = 5", "weight = 65535"),
+        ("depth = 1\n", "depth = 64\n"),
+        ("weight = 5\n", "weight = 0x5 # hexadecimal\n"),
+    ];
+    for (old, new) in cases {
+        let text = A.replace(alloc, old, new)?;
+        assert!(rt; text.as_str() != A);
+        assert_eq!(rt; cause(&rt, alloc, text.as_bytes()), None, "{new}");
+    }
+    Ok(())
+}
+
+#[test]
+fn takes_no_more_than_512_points(rt: HostRuntime) -> Result<(), Fail> {
+    let alloc = rt.alloc();
+    let f = PolyField::new(8, 283).expect(&rt, "irreducible");
+    // y¹⁶ + y = x¹⁷ has 4,096 points.
+    let terms = [(0, 16, 1), (0, 1, 1), (17, 0, 1)].map(|(i, j, c)| Term { i, j, c });
+    let points = Curve::new(alloc, &f, 16, 17, &terms)?.all_points(alloc, &f)?;
+    let mut text = String::from_str(
+        alloc,
+        "bits = 8\nmodulus = 283\na = 16\nb = 17\nweight = 0\ndepth = 1\nterms = [[0, 16, 1], [0, 1, 1], [17, 0, 1]]\npoints = [",
+    )?;
+    for point in points.iter().take(512) {
+        text.push_str(format!(in alloc; "[{}, {}],", point.x, point.y)?.as_str())?;
+    }
+    let mut longer = text.clone()?;
+    text.push_str("]\n")?;
+    assert_eq!(rt; cause(&rt, alloc, text.as_bytes()), None);
+    let next = points.get(512).copied().expect(&rt, "one more");
+    longer.push_str(format!(in alloc; "[{}, {}]]\n", next.x, next.y)?.as_str())?;
+    assert_eq!(rt; cause(&rt, alloc, longer.as_bytes()), Some(point(512)));
+    Ok(())
+}
+
+#[test]
+fn refuses_large_texts_and_other_bytes(rt: HostRuntime) -> Result<(), Fail> {
+    let alloc = rt.alloc();
+    let mut text = String::from_str(alloc, A)?;
+    for _ in A.len()..1_048_576 {
+        text.push_str("\n")?;
+    }
+    assert_eq!(rt; cause(&rt, alloc, text.as_bytes()), None);
+    text.push_str("\n")?;
+    assert_eq!(rt;
+        cause(&rt, alloc, text.as_bytes()),
+        Some(DescCause::TooLarge)
+    );
+    assert_eq!(rt; cause(&rt, alloc, b"#\xff"), Some(DescCause::NotToml));
+    Ok(())
+}
