@@ -10,6 +10,8 @@ mod parts;
 mod ranks;
 mod rows;
 mod solutions;
+#[cfg(test)]
+mod tests;
 
 pub use duals::dual_of;
 pub use lists::{add_scaled, dot};
