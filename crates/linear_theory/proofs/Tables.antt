@@ -1,12 +1,12 @@
 -- The rows of a flat list: how many there are, how long they are, where their entries stand, and what a write leaves
-use Rattle.std.proofs.Common.{◌≡◌, ◌≢◌, ℕ, zero, suc, ◌+◌, ◌*◌, ◌-◌, ◌<◌, ◌≤◌, List, [], ◌∷◌, ◌++◌, length, take, drop, get_or, replicate, sym, ◌∙◌, ap, subst, refl, inl, inr, arith, All}
+use Rattle.std.proofs.Common.{◌≡◌, ◌≢◌, ℕ, zero, suc, ◌+◌, ◌*◌, ◌-◌, ◌<◌, ◌≤◌, List, [], ◌∷◌, ◌++◌, length, min, take, drop, get_or, replicate, sym, ◌∙◌, ap, subst, refl, inl, inr, arith, All}
 use Rattle.std.proofs.Math.Nat.{suc-mul, mul-le-mul_right}
 use Rattle.std.proofs.Math.ListN.{set}
 use Rattle.std.proofs.Math.Seq.{take-set-lt}
-use Rattle.std.proofs.lemmas.List.{drop-drop, get_or-take, get_or-drop, get_or_append_left, get_or-append_right, length-append, length-take-le, length-drop, take-set-le, drop-set-lt, drop-set-add, take_at, drop_at, take-replicate, drop-replicate, drop-append-le, drop-take}
+use Rattle.std.proofs.lemmas.List.{drop-drop, get_or-take, get_or-drop, get_or_append_left, get_or-append_right, length-append, length-take, length-take-le, ext_get_or, length-drop, take-set-le, drop-set-lt, drop-set-add, take_at, drop_at, take-replicate, drop-replicate, drop-append-le, drop-take}
 use Rattle.std.proofs.lemmas.Nat.{row_fits, mul-add-lt}
 use Rattle.std.proofs.lemmas.Bool.{cases_lt}
-use Rattle.std.proofs.lemmas.Slice.{take-put_mid_below}
+use Rattle.std.proofs.lemmas.Slice.{take-put_mid_below, between-put_mid}
 use borrow.Rule.Slice.PartMut.{put_mid}
 use Rattle.linear_theory.specs.Tables.{rows_of}
 
@@ -144,3 +144,24 @@ All-put_mid P a k xs ys hx hy l e n d b =
         | inr v ↦ subst P (sym (put_mid-after a k xs ys n d v (omega arith) e)) (hx n d len)
       ]
     ]
+
+-- ---- the rows after row q is written
+pub row-put_mid_same : (cols q k : ℕ) (xs ys : List ℕ) → k ≡ cols → q * cols + cols ≤ length xs → length ys ≡ k → take cols (drop (q * cols) (put_mid (q * cols) k xs ys)) ≡ ys
+row-put_mid_same cols q k xs ys e h l =
+    ap (λ (n : ℕ). take n (drop (q * cols) (put_mid (q * cols) k xs ys))) (let w : cols ≡ q * cols + cols - q * cols = omega arith in w)
+    ∙ between-put_mid (q * cols) k xs ys (q * cols + cols) (omega arith) (omega arith)
+
+pub row-put_mid_other : (cols q k i : ℕ) (xs ys : List ℕ) → k ≡ cols → i ≢ q → q * cols + cols ≤ length xs → length ys ≡ k → take cols (drop (i * cols) (put_mid (q * cols) k xs ys)) ≡ take cols (drop (i * cols) xs)
+row-put_mid_other cols q k i xs ys e d h l =
+    subst (λ (n : ℕ). take cols (drop (i * cols) (put_mid (q * cols) n xs ys)) ≡ take cols (drop (i * cols) xs)) (sym e)
+    (let fit : length (put_mid (q * cols) cols xs ys) ≡ length xs = length-put_mid (q * cols) cols xs ys h (l ∙ e) in
+    let size : length (take cols (drop (i * cols) (put_mid (q * cols) cols xs ys))) ≡ length (take cols (drop (i * cols) xs)) =
+    length-take cols (drop (i * cols) (put_mid (q * cols) cols xs ys)) ∙ ap (λ n. min cols n) (length-drop (i * cols) (put_mid (q * cols) cols xs ys) ∙ ap (λ n. n - i * cols) fit ∙ sym (length-drop (i * cols) xs))
+    ∙ sym (length-take cols (drop (i * cols) xs)) in
+    ext_get_or 0 (take cols (drop (i * cols) (put_mid (q * cols) cols xs ys))) (take cols (drop (i * cols) xs)) size
+    (λ p lp.
+    let low : p < min cols (length (drop (i * cols) (put_mid (q * cols) cols xs ys))) = subst (λ (n : ℕ). p < n) (length-take cols (drop (i * cols) (put_mid (q * cols) cols xs ys))) lp in
+    let lc : p < cols = omega arith in
+    get_or-take cols (drop (i * cols) (put_mid (q * cols) cols xs ys)) p 0 lc ∙ get_or-drop (i * cols) (put_mid (q * cols) cols xs ys) p 0
+    ∙ put_row-other cols q xs ys i p lc d (omega arith) (l ∙ e)
+    ∙ sym (get_or-take cols (drop (i * cols) xs) p 0 lc ∙ get_or-drop (i * cols) xs p 0)))
