@@ -4,13 +4,15 @@ use Rattle.std.proofs.Common.{◌≡◌, ◌≢◌, ◌↔◌, ℕ, zero, suc, �
 use Rattle.std.specs.Prelude.{slice_index, IsTrue}
 use Rattle.gf_theory.specs.Field.{gf_mul}
 use Rattle.field_theory.specs.Field.{IsField}
+use Rattle.field_theory.specs.Sums.{xor_sum}
 use Rattle.linear_theory.specs.Linear.{rank, put_entry}
 use Rattle.growing_theory.specs.Pivots.{ArePivots}
 use Rattle.growing_theory.specs.Elimination.{correction, IsEliminated}
 use Rattle.growing_theory.proofs.Marks.{row_candidate, column_candidate, residue_value, pivot_tally}
 use Rattle.growing_theory.proofs.Steps.{pivots_of, correction_below, none_above, count_same}
 use Rattle.vote_matrix.specs.Matrix.{Matrix, cell, MaySettle, IsCandidate, KeepsRank, IsSound, count_pivots}
-use Rattle.vote_matrix.specs.Held.{IsHeld}
+use Rattle.vote_matrix.specs.Held.{IsHeld, HasColumns, HasSpans}
+use Rattle.vote_matrix.proofs.Columns.{short_correction}
 use Rattle.vote_matrix.proofs.FieldLaws.{gf_is_field}
 
 -- what contracts see of these lists
@@ -93,6 +95,16 @@ module _ (bits modulus n count : ℕ) (entries factors known pivot number rows i
       ])
       ∙ sym (pivot_tally (2 ^ bits) (gf_mul bits modulus) field n (cell n entries) corrections (slice_index known) (slice_index pivot) entry_below correction_small pivots n (omega arith))
 
+-- a sum of products, with other names for its parts
+pub short_same : (n i j fb fm span bits modulus span' : ℕ) (fs cs factors columns : List ℕ) → fb ≡ bits → fm ≡ modulus → span ≡ span' → fs ≡ factors → cs ≡ columns
+    → xor_sum span (λ t. gf_mul fb fm (cell n fs i t) (cell n cs j t)) ≡ xor_sum span' (λ t. gf_mul bits modulus (cell n factors i t) (cell n columns j t))
+short_same n i j fb fm span bits modulus span' fs cs factors columns eb em es ef ec =
+    ap (λ (y : ℕ). xor_sum span (λ t. gf_mul y fm (cell n fs i t) (cell n cs j t))) eb
+    ∙ ap (λ (y : ℕ). xor_sum span (λ t. gf_mul bits y (cell n fs i t) (cell n cs j t))) em
+    ∙ ap (λ (y : ℕ). xor_sum y (λ t. gf_mul bits modulus (cell n fs i t) (cell n cs j t))) es
+    ∙ ap (λ (y : List ℕ). xor_sum span' (λ t. gf_mul bits modulus (cell n y i t) (cell n cs j t))) ef
+    ∙ ap (λ (y : List ℕ). xor_sum span' (λ t. gf_mul bits modulus (cell n factors i t) (cell n y j t))) ec
+
 -- the same of the value that contracts see
 pub candidate_seen : (bits modulus n count : ℕ) (entries factors known pivot number rows inverse : List ℕ) (v : Matrix) → seen bits modulus n known entries ≡ v → IsHeld bits modulus n count entries factors known pivot number rows inverse
     → (i j : ℕ) → i < v.n → j < v.n → MaySettle v i j → IsCandidate v i j ↔ ((j ≤ slice_index pivot i) × (slice_index number j < n → i ≤ slice_index rows (slice_index number j)))
@@ -100,16 +112,19 @@ candidate_seen bits modulus n count entries factors known pivot number rows inve
     subst (λ (v : Matrix). i < v.n → j < v.n → MaySettle v i j → IsCandidate v i j ↔ ((j ≤ slice_index pivot i) × (slice_index number j < n → i ≤ slice_index rows (slice_index number j)))) e
     (candidate_iff bits modulus n count entries factors known pivot number rows inverse h i j)
 
-pub residue_seen : (bits modulus n count : ℕ) (entries factors known pivot number rows inverse : List ℕ) (v : Matrix) → seen bits modulus n known entries ≡ v → IsHeld bits modulus n count entries factors known pivot number rows inverse
+pub residue_seen : (bits modulus n count : ℕ) (entries factors known pivot number rows inverse columns spans : List ℕ) (v : Matrix) → seen bits modulus n known entries ≡ v → IsHeld bits modulus n count entries factors known pivot number rows inverse
+    → HasColumns bits n count entries pivot number rows columns → HasSpans n count factors spans
     → (i j : ℕ) → i < v.n → j < v.n → MaySettle v i j → IsCandidate v i j
-    → (fb fm : ℕ) (es fs rs : List ℕ) (x : ℕ) → fb ≡ v.bits → fm ≡ v.modulus → es ≡ entries → fs ≡ factors → rs ≡ rows
-    → x ≡ correction (gf_mul fb fm) count (cell n es) (cell n fs) (slice_index rs) i j
+    → (fb fm span : ℕ) (fs cs : List ℕ) (x : ℕ) → fb ≡ v.bits → fm ≡ v.modulus → span ≡ slice_index spans i → fs ≡ factors → cs ≡ columns
+    → x ≡ xor_sum span (λ t. gf_mul fb fm (cell n fs i t) (cell n cs j t))
     → KeepsRank v i j x × ((y : ℕ) → y < 2 ^ v.bits → KeepsRank v i j y → y ≡ x)
-residue_seen bits modulus n count entries factors known pivot number rows inverse v e h i j =
-    subst (λ (v : Matrix). i < v.n → j < v.n → MaySettle v i j → IsCandidate v i j → (fb fm : ℕ) (es fs rs : List ℕ) (x : ℕ) → fb ≡ v.bits → fm ≡ v.modulus → es ≡ entries → fs ≡ factors → rs ≡ rows
-    → x ≡ correction (gf_mul fb fm) count (cell n es) (cell n fs) (slice_index rs) i j
+residue_seen bits modulus n count entries factors known pivot number rows inverse columns spans v e h hc hs i j =
+    subst (λ (v : Matrix). i < v.n → j < v.n → MaySettle v i j → IsCandidate v i j → (fb fm span : ℕ) (fs cs : List ℕ) (x : ℕ) → fb ≡ v.bits → fm ≡ v.modulus → span ≡ slice_index spans i → fs ≡ factors → cs ≡ columns
+    → x ≡ xor_sum span (λ t. gf_mul fb fm (cell n fs i t) (cell n cs j t))
     → KeepsRank v i j x × ((y : ℕ) → y < 2 ^ v.bits → KeepsRank v i j y → y ≡ x)) e
-    (λ li lj m k fb fm es fs rs x eb em ee ef er ex. residue_is bits modulus n count entries factors known pivot number rows inverse h i j li lj m k x (ex ∙ rw (eb, em, ee, ef, er) refl))
+    (λ li lj m k fb fm span fs cs x eb em es ef ec ex.
+    residue_is bits modulus n count entries factors known pivot number rows inverse h i j li lj m k x
+    (short_correction bits modulus n count entries factors pivot number rows columns spans hc hs i j x li lj h.eliminated.few (ex ∙ short_same n i j fb fm span bits modulus (slice_index spans i) fs cs factors columns eb em es ef ec)))
 
 -- the two ways to answer
 pub answer_no : (P : Type 0) → (P → ⊥) → (IsTrue false → P) × (P → IsTrue false)
