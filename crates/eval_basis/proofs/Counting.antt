@@ -1,7 +1,7 @@
 -- How many sums are the index of a member
-use Rattle.std.proofs.Common.{◌≡◌, ◌≢◌, ◌⊎◌, ℕ, zero, suc, ◌+◌, ◌*◌, ◌<◌, ◌≤◌, Bool, true, false, cond, eqb, List, [], ◌∷◌, ◌++◌, length, get_or, take, drop, replicate, slice_index, sym, ◌∙◌, ap, subst, refl, inl, inr, arith, count_by}
+use Rattle.std.proofs.Common.{◌≡◌, ◌≢◌, ℕ, suc, ◌+◌, ◌<◌, ◌≤◌, eqb, List, length, get_or, take, replicate, slice_index, sym, ◌∙◌, ap, subst, inl, inr, arith, count_by}
 use Rattle.std.proofs.Math.ListN.{set}
-use Rattle.std.proofs.lemmas.Bool.{cases_eq, cases_lt, eq-eqb, ne_eqb}
+use Rattle.std.proofs.lemmas.Bool.{cases_eq, eq-eqb, ne_eqb}
 use Rattle.std.proofs.lemmas.List.{get_or-set_same, get_or-set_other, get_or-replicate, length-replicate, length-set, get_or_default, take_all}
 use Rattle.std.proofs.lemmas.List.Sums.{count_by_more_yes, count_by_more_no}
 use Rattle.field_theory.proofs.Sums.{eq_or_below}
@@ -96,9 +96,9 @@ counted_all ranks sums counts i l h = record {
 
 -- ---- one sum more, looked up among the numbers of the members
 module _ (count : ℕ) (ranks numbers sums counts : List ℕ) (i : ℕ) (long : length numbers ≡ count) (below : (k : ℕ) → k < length ranks → slice_index ranks k < count)
-  (member : (k : ℕ) → k < length ranks → slice_index numbers (slice_index ranks k) ≡ k)
-  (found : (s : ℕ) → s < count → slice_index numbers s < length ranks → slice_index ranks (slice_index numbers s) ≡ s)
-  (l : i < length sums) (h : AreCounted ranks sums counts i) where
+    (member : (k : ℕ) → k < length ranks → slice_index numbers (slice_index ranks k) ≡ k)
+    (found : (s : ℕ) → s < count → slice_index numbers s < length ranks → slice_index ranks (slice_index numbers s) ≡ s)
+    (l : i < length sums) (h : AreCounted ranks sums counts i) where
   pub sum_of_member : (k x : ℕ) → get_or sums i 0 < count → k ≡ get_or numbers (get_or sums i 0) k → k < length ranks → x ≡ get_or counts k x → AreCounted ranks sums (set counts k (x + 1)) (i + 1)
   sum_of_member k x ls is lk ix =
       let number : k ≡ slice_index numbers (get_or sums i 0) = is ∙ get_or_default numbers (get_or sums i 0) k 0 (omega arith) in

@@ -1,10 +1,8 @@
 -- The search for the members: the values of a function, and the members so far
-use Rattle.std.proofs.Common.{◌≡◌, ◌≢◌, ◌⊎◌, ℕ, suc, ◌+◌, ◌*◌, ◌<◌, ◌≤◌, ◌^◌, Bool, true, false, List, [], ◌∷◌, ◌++◌, length, get_or, slice_index, sym, ◌∙◌, ap, subst, refl, inl, inr, arith, All}
+use Rattle.std.proofs.Common.{◌≡◌, ℕ, suc, ◌+◌, ◌*◌, ◌<◌, ◌≤◌, ◌^◌, Bool, true, false, List, [], ◌∷◌, ◌++◌, length, slice_index, sym, ◌∙◌, ap, subst, refl, inl, inr, arith}
 use Rattle.std.proofs.Math.ListN.{set}
-use Rattle.std.proofs.lemmas.List.{get_or-set_same, get_or-set_other, get_or_default, get_or_append_left, get_or-append-add, get_or_push, length-append, length_push}
+use Rattle.std.proofs.lemmas.List.{get_or-set_same, get_or-set_other, get_or_append_left, get_or-append-add, get_or_push, length-append, length_push}
 use Rattle.std.proofs.lemmas.Nat.{mul-add-lt}
-use Rattle.std.proofs.Math.Nat.{suc-mul}
-use Rattle.field_theory.specs.Field.{IsField}
 use Rattle.field_theory.specs.Sums.{put, unit}
 use Rattle.field_theory.proofs.Sums.{eq_or_below}
 use Rattle.gf_theory.specs.Field.{gf_mul, IsModulus}
@@ -13,7 +11,7 @@ use Rattle.linear_theory.proofs.Spans.{put-same, put-other}
 use Rattle.linear_theory.proofs.Functionals.{functionals_none, functionals_kept, functionals_same}
 use Rattle.gf_linear.specs.Matrix.{Matrix, entry}
 use Rattle.order_domain.specs.declared.Point.{Point}
-use Rattle.order_domain.specs.Points.{origin, point_at}
+use Rattle.order_domain.specs.Points.{point_at}
 use Rattle.order_domain.specs.Domain.{Domain, ArePoints, IsOrderDomain}
 use Rattle.order_domain.specs.Values.{value_at, HasOrderedValues}
 use Rattle.order_domain.proofs.Values.{value_at-is, value_at-symbol, values_law}

@@ -5,3 +5,5 @@ pub mod Stepping
 pub mod Finding
 pub mod Pushing
 pub mod Counting
+pub mod TableCounts
+pub mod Assembly

@@ -1,7 +1,7 @@
 -- The lists beside the members, after a write and after a step
-use Rattle.std.proofs.Common.{◌≡◌, ◌≢◌, ◌⊎◌, ℕ, suc, ◌+◌, ◌<◌, ◌≤◌, ◌^◌, Bool, true, false, List, [], length, take, get_or, slice_index, sym, ◌∙◌, ap, subst, refl, inl, inr, arith, bit_xor, All}
+use Rattle.std.proofs.Common.{◌≡◌, ◌≢◌, ℕ, suc, ◌+◌, ◌<◌, ◌≤◌, ◌^◌, List, length, take, get_or, slice_index, sym, ◌∙◌, ap, subst, refl, inl, inr, arith, bit_xor, All}
 use Rattle.std.proofs.Math.ListN.{set}
-use Rattle.std.proofs.lemmas.Bool.{cases_eq, cases_lt}
+use Rattle.std.proofs.lemmas.Bool.{cases_eq}
 use Rattle.std.proofs.lemmas.Nat.{pow_pos, pow_below}
 use Rattle.std.proofs.lemmas.List.{length-replicate, get_or-take}
 use Rattle.field_theory.specs.Sums.{unit}
@@ -11,9 +11,9 @@ use Rattle.linear_theory.proofs.Entries.{dot_entries}
 use Rattle.linear_theory.proofs.Spans.{put-same, put-other}
 use Rattle.gf_theory.specs.Field.{gf_mul, IsModulus}
 use Rattle.gf_theory.proofs.Product.{gf_mul_comm}
-use Rattle.gf_linear.specs.Matrix.{Matrix, IsMatrix, IsOver, row, entry, zero_matrix, with_row, with_entry}
+use Rattle.gf_linear.specs.Matrix.{Matrix, row, entry, zero_matrix, with_row, with_entry}
 use Rattle.gf_linear.proofs.Writes.{length-with_row, row-with_row, row-with_row_other, entry-with_entry, entry-with_entry_other, over-with_row, over-with_entry, entry-zero_matrix, matrix-with_row, matrix-with_entry, matrix-zero_matrix}
-use Rattle.eval_basis.specs.Lists.{AreLists, AreKept, IsPivot, IsStep}
+use Rattle.eval_basis.specs.Lists.{AreLists, AreKept, IsPivot}
 
 pub lists_zero : (bits n : ℕ) (m : Matrix) → m ≡ zero_matrix n (n + 1) → n ≤ 1024 → AreLists bits n m
 lists_zero bits n m e l = subst (λ (w : Matrix). AreLists bits n w) (sym e) (record {

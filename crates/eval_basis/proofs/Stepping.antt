@@ -1,17 +1,16 @@
 -- One function more: it is a combination of those before it, or a new member
-use Rattle.std.proofs.Common.{◌≡◌, ◌≢◌, ◌⊎◌, ℕ, suc, ◌+◌, ◌<◌, ◌≤◌, ◌^◌, true, false, List, length, get_or, slice_index, sym, ◌∙◌, ap, subst, refl, inl, inr, arith, bit_xor}
+use Rattle.std.proofs.Common.{◌≡◌, ◌≢◌, ℕ, ◌+◌, ◌<◌, ◌≤◌, ◌^◌, true, false, List, length, get_or, slice_index, sym, ◌∙◌, ap, subst, refl, inl, inr, arith, bit_xor}
 use Rattle.std.proofs.lemmas.Bool.{cases_eq}
 use Rattle.field_theory.specs.Field.{IsField}
-use Rattle.field_theory.specs.Sums.{put}
 use Rattle.gf_theory.specs.Field.{gf_mul, IsModulus}
 use Rattle.gf_theory.proofs.Fields.{field_of_modulus}
 use Rattle.linear_theory.specs.Linear.{dot}
-use Rattle.linear_theory.specs.Functionals.{AreFunctionals, IsPivotList, AreCleared}
+use Rattle.linear_theory.specs.Functionals.{AreFunctionals, IsPivotList}
 use Rattle.linear_theory.proofs.Entries.{dot_entries}
 use Rattle.linear_theory.proofs.Functionals.{functionals_kept, functionals_grown, functionals_same, pivot_of_scaled, pivot_of_added}
 use Rattle.gf_linear.specs.Matrix.{Matrix, entry, with_row}
 use Rattle.gf_linear.proofs.Writes.{row-with_row, row-with_row_other}
-use Rattle.eval_basis.specs.Lists.{AreLists, AreKept, IsPivot, IsStep}
+use Rattle.eval_basis.specs.Lists.{AreKept, IsPivot, IsStep}
 
 pub field_of : (bits modulus : ℕ) → IsModulus bits modulus → IsField (2 ^ bits) (gf_mul bits modulus)
 field_of bits modulus h = let two : 2 ≤ bits = h.at_least_two in field_of_modulus bits modulus (omega arith) h.irreducible

@@ -1,14 +1,16 @@
 -- AreStored     the values of the functions with these indices at the points, row by row
+-- AreTables     the tables of these members: labels, dual lists, pair counts, sums and leads
 -- AreMembers    the members: the indices of the functions that are no combination of the functions before them, as many as
 --               there are points, with their values, and lists that are dual to these
-use Rattle.std.specs.Prelude.{◌≡◌, ◌≢◌, ℕ, ◌+◌, ◌*◌, ◌^◌, ◌<◌, List, length, slice_index, All}
+use Rattle.std.specs.Prelude.{◌≡◌, ◌≢◌, ℕ, ◌+◌, ◌*◌, ◌^◌, ◌<◌, ◌==◌, List, length, slice_index, count_by, All}
 use Rattle.field_theory.specs.Sums.{unit}
 use Rattle.gf_theory.specs.Field.{gf_mul}
 use Rattle.linear_theory.specs.Linear.{dot, IsCombination}
 use Rattle.gf_linear.specs.Matrix.{Matrix, entry}
 use Rattle.order_domain.specs.declared.Point.{Point}
 use Rattle.order_domain.specs.Domain.{Domain}
-use Rattle.order_domain.specs.Values.{value_at}
+use Rattle.order_domain.specs.Values.{value_at, sum_or_count, lead_at}
+use Rattle.eval_basis.specs.Flat.{IsList, IsTable}
 use Rattle.eval_basis.specs.Lists.{AreLists}
 
 pub record AreStored (d : Domain) (modulus : ℕ) (points : List Point) (ranks vectors : List ℕ) : Type 0 where
@@ -27,3 +29,11 @@ pub record AreMembers (d : Domain) (modulus : ℕ) (points : List Point) (ranks 
   pub are_lists : AreLists d.bits (length points) lists
   pub dual : (k q : ℕ) → k < length points → q < length points →
       dot (gf_mul d.bits modulus) (length points) (value_at d modulus points (slice_index ranks k)) (entry lists q) ≡ unit k q
+
+pub record AreTables (d : Domain) (modulus : ℕ) (ranks : List ℕ) (lists : Matrix) (labels duals counts sums leads : List ℕ) : Type 0 where
+  pub labels_are : IsList (length ranks) (λ k. d.label (slice_index ranks k)) labels
+  pub duals_are : IsTable (length lists.rows) (entry lists) duals
+  pub counts_are : IsList (length ranks) (λ k. count_by (λ s. s == slice_index ranks k) sums) counts
+  pub sums_are : IsTable (length ranks) (λ i j. sum_or_count d (slice_index ranks i) (slice_index ranks j)) sums
+  pub leads_are : IsTable (length ranks) (λ i j. lead_at d modulus (slice_index ranks i) (slice_index ranks j)) leads
+  pub lead_symbols : All (λ x. x < 2 ^ d.bits) leads

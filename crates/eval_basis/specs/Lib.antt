@@ -3,3 +3,4 @@ pub mod Rules
 pub mod Lists
 pub mod Found
 pub mod Flat
+pub mod Built

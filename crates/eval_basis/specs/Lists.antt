@@ -2,7 +2,7 @@
 -- AreKept      the lists of two such matrices are the same
 -- IsPivot      what comes to stand at k: list q scaled to the product 1, and with list k where that is another one
 -- IsStep       the lists V come of the lists U by one more row, whose values are given; `is_new` tells whether it is new
-use Rattle.std.specs.Prelude.{◌≡◌, ◌≢◌, ℕ, ◌+◌, ◌^◌, ◌<◌, bit_xor, Bool, MatchBool, List, length, slice_index}
+use Rattle.std.specs.Prelude.{◌≡◌, ◌≢◌, ℕ, ◌+◌, ◌<◌, bit_xor, Bool, MatchBool, List, length, slice_index}
 use Rattle.field_theory.specs.Sums.{put}
 use Rattle.gf_theory.specs.Field.{gf_mul}
 use Rattle.linear_theory.specs.Functionals.{AreFunctionals}

@@ -12,18 +12,18 @@ use std::marker::Model;
 /// No call takes memory. In all calls k, i and j are below `n()`.
 #[derive(Drop)]
 pub struct EvalBasis {
-    bits: u32,
-    modulus: u32,
-    n: u32,
-    count: u32,
-    ranks: Vec<u32>,
-    labels: Vec<u32>,
-    pair_counts: Vec<u32>,
+    pub(crate) bits: u32,
+    pub(crate) modulus: u32,
+    pub(crate) n: u32,
+    pub(crate) count: u32,
+    pub(crate) ranks: Vec<u32>,
+    pub(crate) labels: Vec<u32>,
+    pub(crate) pair_counts: Vec<u32>,
     // n rows of n, row by row
-    vectors: Vec<u8>,
-    duals: Vec<u8>,
-    sums: Vec<u32>,
-    leads: Vec<u8>,
+    pub(crate) vectors: Vec<u8>,
+    pub(crate) duals: Vec<u8>,
+    pub(crate) sums: Vec<u32>,
+    pub(crate) leads: Vec<u8>,
 }
 
 impl Model for EvalBasis {

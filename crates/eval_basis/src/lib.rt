@@ -3,6 +3,7 @@
 #![tactic(auto)]
 
 mod basis;
+mod build;
 mod checked;
 mod elimination;
 mod members;

@@ -21,13 +21,7 @@ pub struct Members {
 }
 
 /// Writes the values of function i at the points.
-fn evaluate<F: Field, D: OrderDomain>(
-    f: &F,
-    dom: &D,
-    i: u32,
-    points: &[Point],
-    values: &mut [u8],
-)
+fn evaluate<F: Field, D: OrderDomain>(f: &F, dom: &D, i: u32, points: &[Point], values: &mut [u8])
     requires bits { F.bits_of f.now ≡ (D.domain dom.now).bits }
     requires index { i < (D.domain dom.now).count }
     requires points { ArePoints (D.domain dom.now) (F.modulus_of f.now) points.now }

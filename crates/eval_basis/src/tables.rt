@@ -4,20 +4,26 @@ ghost use Rattle.std.specs.Prelude.{ℕ, ◌≡◌, ◌+◌, ◌*◌, ◌<◌, �
 ghost use Rattle.gf_linear.specs.Matrix.{entry};
 ghost use Rattle.order_domain.specs.Values.{sum_or_count as sum_or_count_of, lead_at};
 ghost use Rattle.eval_basis.specs.Flat.{IsList, IsTable};
-ghost use Rattle.eval_basis.specs.Lists.{AreLists};
+ghost use Rattle.eval_basis.specs.Found.{AreTables};
 
 use gf_field::Field;
 use gf_linear::Matrix;
 use order_domain::OrderDomain;
 use std::alloc::{AllocError, Global};
 
+/// The tables of a basis.
+#[derive(Drop)]
+pub struct Tables {
+    pub labels: Vec<u32>,
+    pub duals: Vec<u8>,
+    pub pair_counts: Vec<u32>,
+    pub sums: Vec<u32>,
+    pub leads: Vec<u8>,
+}
+
 /// The labels of the functions with these indices.
 #[tactic(auto, using(crate::proofs::Pushing::pushing))]
-pub fn labels_of<D: OrderDomain>(
-    alloc: Global,
-    dom: &D,
-    ranks: &[u32],
-) -> Result<Vec<u32>, AllocError>
+fn labels_of<D: OrderDomain>(alloc: Global, dom: &D, ranks: &[u32]) -> Result<Vec<u32>, AllocError>
     requires { (k : ℕ) → k < length ranks.now → slice_index ranks.now k < (D.domain dom.now).count }
     ensures { IfOk result (λ v. IsList (length ranks.now) (λ k. (D.domain dom.now).label (slice_index ranks.now k)) v.items) }
 {
@@ -42,11 +48,7 @@ fn sum_or_count<D: OrderDomain>(dom: &D, i: u32, j: u32) -> u32
 
 /// The sums of the functions with these indices, row by row; the number of functions where there is none.
 #[tactic(auto, using(crate::proofs::Pushing::pushing))]
-pub fn sums_of<D: OrderDomain>(
-    alloc: Global,
-    dom: &D,
-    ranks: &[u32],
-) -> Result<Vec<u32>, AllocError>
+fn sums_of<D: OrderDomain>(alloc: Global, dom: &D, ranks: &[u32]) -> Result<Vec<u32>, AllocError>
     requires few { length ranks.now ≤ 1024 }
     requires below { (k : ℕ) → k < length ranks.now → slice_index ranks.now k < (D.domain dom.now).count }
     ensures { IfOk result (λ v. IsTable (length ranks.now) (λ i j. sum_or_count_of (D.domain dom.now) (slice_index ranks.now i) (slice_index ranks.now j)) v.items) }
@@ -76,7 +78,7 @@ fn lead_or_zero<F: Field, D: OrderDomain>(f: &F, dom: &D, i: u32, j: u32) -> u8
 
 /// The leads of the functions with these indices, row by row; 0 where there is no sum.
 #[tactic(auto, using(crate::proofs::Pushing::pushing))]
-pub fn leads_of<F: Field, D: OrderDomain>(
+fn leads_of<F: Field, D: OrderDomain>(
     alloc: Global,
     f: &F,
     dom: &D,
@@ -99,7 +101,7 @@ pub fn leads_of<F: Field, D: OrderDomain>(
 
 /// The dual lists, row by row.
 #[tactic(auto, using(crate::proofs::Pushing::pushing))]
-pub fn duals_of(alloc: Global, lists: &Matrix) -> Result<Vec<u8>, AllocError>
+fn duals_of(alloc: Global, lists: &Matrix) -> Result<Vec<u8>, AllocError>
     requires { lists.now.cols ≡ length lists.now.rows + 1 }
     ensures { IfOk result (λ v. IsTable (length lists.now.rows) (entry lists.now) v.items) }
 {
@@ -128,7 +130,7 @@ fn numbers_of(alloc: Global, count: u32, ranks: &[u32]) -> Result<Vec<u32>, Allo
 }
 
 /// For each member how many of the sums are its index.
-pub fn pair_counts_of(
+fn pair_counts_of(
     alloc: Global,
     count: u32,
     ranks: &[u32],
@@ -151,4 +153,29 @@ pub fn pair_counts_of(
         }
     }
     Ok(counts)
+}
+
+/// The tables of the members with these indices and dual lists.
+pub fn tables_of<F: Field, D: OrderDomain>(
+    alloc: Global,
+    f: &F,
+    dom: &D,
+    ranks: &[u32],
+    lists: &Matrix,
+) -> Result<Tables, AllocError>
+    requires bits { F.bits_of f.now ≡ (D.domain dom.now).bits }
+    requires few { length ranks.now ≤ 1024 }
+    requires below { (k : ℕ) → k < length ranks.now → slice_index ranks.now k < (D.domain dom.now).count }
+    requires rising { (j k : ℕ) → j < k → k < length ranks.now → slice_index ranks.now j < slice_index ranks.now k }
+    requires lists { lists.now.cols ≡ length lists.now.rows + 1 }
+    ensures { IfOk result (λ t. AreTables (D.domain dom.now) (F.modulus_of f.now) ranks.now lists.now t.labels.items t.duals.items t.pair_counts.items t.sums.items t.leads.items) }
+{
+    let sums = sums_of(alloc, dom, ranks)?;
+    Ok(Tables {
+        labels: labels_of(alloc, dom, ranks)?,
+        duals: duals_of(alloc, lists)?,
+        pair_counts: pair_counts_of(alloc, dom.count(), ranks, &sums)?,
+        leads: leads_of(alloc, f, dom, ranks)?,
+        sums,
+    })
 }

@@ -1,4 +1,4 @@
-use Rattle.std.proofs.Common.{◌≡◌, ℕ, ◌+◌, arith, length, List, sym, ap, subst, ◌∙◌, get_or}
+use Rattle.std.proofs.Common.{ℕ, ◌+◌, arith, length, sym, ap, subst, ◌∙◌, get_or}
 use Rattle.gf_linear.specs.Matrix.{Matrix}
 use Rattle.eval_basis.specs.Lists.{AreLists}
 use Rattle.eval_basis.proofs.ListSteps.{AreClearedBefore, lists_set_row, cleared_pass, cleared_more}

@@ -1,4 +1,4 @@
-use Rattle.std.proofs.Common.{arith, length, List}
+use Rattle.std.proofs.Common.{arith, length}
 use Rattle.gf_theory.specs.Field.{gf_mul}
 use Rattle.eval_basis.proofs.ListSteps.{lists_set, kept_more, multiplied_more}
 use Rattle.eval_basis.proofs.elimination.multiply.Goals as goal

@@ -1,4 +1,4 @@
-use Rattle.std.proofs.Common.{arith, refl}
+use Rattle.std.proofs.Common.{arith}
 use Rattle.eval_basis.proofs.ListSteps.{lists_set, units_more, one_symbol}
 use Rattle.eval_basis.proofs.elimination.unit_lists.Goals as goal
 

@@ -1,4 +1,3 @@
-use Rattle.std.proofs.Common.{ℕ}
 use Rattle.eval_basis.specs.Lists.{AreLists}
 use Rattle.eval_basis.proofs.ListSteps.{AreUnits}
 use Rattle.eval_basis.proofs.elimination.unit_lists.Given as goal

@@ -1,4 +1,4 @@
-use Rattle.std.proofs.Common.{arith, ◌^◌, ◌<◌, rules}
+use Rattle.std.proofs.Common.{arith, ◌^◌, ◌<◌}
 use Rattle.std.proofs.lemmas.List.Elements.{AllWithin-more_set}
 use Rattle.eval_basis.proofs.Finding.{values_more}
 use Rattle.eval_basis.proofs.members.evaluate.Goals as goal

@@ -1,7 +1,6 @@
-use Rattle.std.proofs.Common.{arith, rules, subst, sym, ℕ, List, length}
+use Rattle.std.proofs.Common.{arith, rules, subst, ℕ, length}
 use Rattle.gf_theory.specs.Field.{IsModulus}
-use Rattle.gf_linear.specs.Matrix.{Matrix}
-use Rattle.eval_basis.proofs.Finding.{AreSoFar, so_far_none, so_far_full, so_far_old, so_far_new, so_far_all}
+use Rattle.eval_basis.proofs.Finding.{so_far_none, so_far_full, so_far_old, so_far_new, so_far_all}
 use Rattle.eval_basis.proofs.members.search.Goals as goal
 use Rattle.eval_basis.proofs.members.search.Goals.{then-len-n+then-step+in_ok-push+in_ok-extend_from_slice, then-len-n+else-step, else-len-n}
 

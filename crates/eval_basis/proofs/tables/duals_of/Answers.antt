@@ -1,4 +1,4 @@
-use Rattle.std.proofs.Common.{ℕ, List, arith, length, take, get_or, ap, ◌∙◌}
+use Rattle.std.proofs.Common.{ℕ, List, arith, length, get_or, ap, ◌∙◌}
 use Rattle.std.proofs.lemmas.List.{length-take-le, get_or-take}
 use Rattle.gf_linear.specs.Matrix.{entry}
 use Rattle.eval_basis.proofs.Pushing.{pushed_list}

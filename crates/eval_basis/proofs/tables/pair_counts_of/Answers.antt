@@ -1,4 +1,3 @@
-use Rattle.std.proofs.Common.{arith, length, rules, ◌≡◌, ◌∙◌, sym}
 use Rattle.eval_basis.proofs.Counting.{sum_of_member, sum_of_none, sum_past}
 use Rattle.eval_basis.proofs.tables.pair_counts_of.Goals as goal
 use Rattle.eval_basis.proofs.tables.pair_counts_of.Goals.{then-sum-count+then-k-ranks, then-sum-count+else-k-ranks, else-sum-count}
