@@ -1,7 +1,9 @@
 mod BitPasses
+pub mod Cleared
 pub mod Forms
 pub mod Found
 pub mod Joins
+pub mod Multiples
 pub mod Residues
 pub mod Sides
 pub mod Steps

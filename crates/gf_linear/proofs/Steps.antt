@@ -94,26 +94,32 @@ cut_of cols k above here below ea eh = record {
       ∙ ap (λ n. get_or below n 0) (let v : q * cols + p - k * cols - cols ≡ (q - k - 1) * cols + p = omega arith in v);
 }
 
+joined : (b m x x2 y y2 z z2 : ℕ) → x ≡ x2 → y ≡ y2 → z ≡ z2 → bit_xor x2 (gf_mul b m y2 z2) ≡ bit_xor x (gf_mul b m y z)
+joined b m x x2 y y2 z z2 e f h = cc
+
 -- the rows above and below row k are cleared
-pub others_cleared : (b m rows cols k col : ℕ) (xs xs2 above here below above2 below2 : List ℕ) → col < cols
-    → IsCut cols k xs above here below → IsCut cols k xs2 above2 here below2 → length here ≡ cols
+pub bands_cleared :
+    (b m rows cols k col : ℕ) (xs xs2 above here below above2 below2 : List ℕ) → col < cols → IsCut cols k xs above here below → IsCut cols k xs2 above2 here below2
+    → ((q p : ℕ) → q < k → p < cols → cell above2 cols q p ≡ bit_xor (cell above cols q p) (gf_mul b m (cell above cols q col) (get_or here p 0)))
+    → ((q p : ℕ) → q < rows - k - 1 → p < cols → cell below2 cols q p ≡ bit_xor (cell below cols q p) (gf_mul b m (cell below cols q col) (get_or here p 0)))
+    → (q p : ℕ) → q < rows → q ≢ k → p < cols → cell xs2 cols q p ≡ bit_xor (cell xs cols q p) (gf_mul b m (cell xs cols q col) (cell xs cols k p))
+bands_cleared b m rows cols k col xs xs2 above here below above2 below2 lc was is va vb q p lq d lp = elim (cases_lt q k) [
+  | inl u ↦ is.before q p u lp ∙ va q p u lp ∙ joined b m _ _ _ _ _ _ (was.before q p u lp) (was.before q col u lc) (was.at p lp)
+  | inr u ↦
+      let v : k < q = omega arith in
+      is.after q p v lp ∙ vb (q - k - 1) p (omega arith) lp ∙ joined b m _ _ _ _ _ _ (was.after q p v lp) (was.after q col v lc) (was.at p lp)
+]
+
+-- .. where the width is that of row k
+pub others_cleared :
+    (b m rows cols k col : ℕ) (xs xs2 above here below above2 below2 : List ℕ) → col < cols → IsCut cols k xs above here below → IsCut cols k xs2 above2 here below2 → length here ≡ cols
     → ((q p : ℕ) → q < k → p < length here → cell above2 (length here) q p ≡ bit_xor (cell above (length here) q p) (gf_mul b m (cell above (length here) q col) (get_or here p 0)))
     → ((q p : ℕ) → q < rows - k - 1 → p < length here → cell below2 (length here) q p ≡ bit_xor (cell below (length here) q p) (gf_mul b m (cell below (length here) q col) (get_or here p 0)))
     → (q p : ℕ) → q < rows → q ≢ k → p < cols → cell xs2 cols q p ≡ bit_xor (cell xs cols q p) (gf_mul b m (cell xs cols q col) (cell xs cols k p))
-others_cleared b m rows cols k col xs xs2 above here below above2 below2 lc was is e va vb q p lq d lp =
-    let wa : (q p : ℕ) → q < k → p < cols → cell above2 cols q p ≡ bit_xor (cell above cols q p) (gf_mul b m (cell above cols q col) (get_or here p 0)) =
-    subst (λ (n : ℕ). (q p : ℕ) → q < k → p < n → cell above2 n q p ≡ bit_xor (cell above n q p) (gf_mul b m (cell above n q col) (get_or here p 0))) e va in
-    let wb : (q p : ℕ) → q < rows - k - 1 → p < cols → cell below2 cols q p ≡ bit_xor (cell below cols q p) (gf_mul b m (cell below cols q col) (get_or here p 0)) =
-    subst (λ (n : ℕ). (q p : ℕ) → q < rows - k - 1 → p < n → cell below2 n q p ≡ bit_xor (cell below n q p) (gf_mul b m (cell below n q col) (get_or here p 0))) e vb in
-    elim (cases_lt q k) [
-      | inl u ↦ is.before q p u lp ∙ wa q p u lp ∙ joined b m _ _ _ _ _ _ (was.before q p u lp) (was.before q col u lc) (was.at p lp)
-      | inr u ↦
-          let v : k < q = omega arith in
-          is.after q p v lp ∙ wb (q - k - 1) p (omega arith) lp ∙ joined b m _ _ _ _ _ _ (was.after q p v lp) (was.after q col v lc) (was.at p lp)
-    ]
-  where
-    joined : (b m x x2 y y2 z z2 : ℕ) → x ≡ x2 → y ≡ y2 → z ≡ z2 → bit_xor x2 (gf_mul b m y2 z2) ≡ bit_xor x (gf_mul b m y z)
-    joined b m x x2 y y2 z z2 e f h = cc
+others_cleared b m rows cols k col xs xs2 above here below above2 below2 lc was is e va vb =
+    bands_cleared b m rows cols k col xs xs2 above here below above2 below2 lc was is
+    (subst (λ (n : ℕ). (q p : ℕ) → q < k → p < n → cell above2 n q p ≡ bit_xor (cell above n q p) (gf_mul b m (cell above n q col) (get_or here p 0))) e va)
+    (subst (λ (n : ℕ). (q p : ℕ) → q < rows - k - 1 → p < n → cell below2 n q p ≡ bit_xor (cell below n q p) (gf_mul b m (cell below n q col) (get_or here p 0))) e vb)
 
 pub All-cut : (P : ℕ → Type 0) (above here below : List ℕ) → All P above → All P here → All P below → All P (above ++ (here ++ below))
 All-cut P above here below a h b = All-append P above (here ++ below) a (All-append P here below h b)

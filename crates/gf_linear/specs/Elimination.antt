@@ -5,8 +5,9 @@
 -- HasFreeZeros    a list is 0 at each place that has no pivot in the reduced row echelon form
 -- beside_unit     a matrix with the unit matrix to its right
 -- beside_column   a matrix with a column to its right
+-- plus_multiple   a list plus a multiple of another
 -- residue_of      the sum of the entries of a row at the pivots, each times the entry of a pivot's row in a column
-use Rattle.std.specs.Prelude.{◌≡◌, ℕ, ◌+◌, ◌-◌, ◌<◌, ◌^◌, List, length, slice_index, All, cond, nat_lt}
+use Rattle.std.specs.Prelude.{◌≡◌, ℕ, ◌+◌, ◌-◌, ◌<◌, ◌^◌, List, [], ◌∷◌, length, drop, slice_index, bit_xor, All, cond, nat_lt}
 use Rattle.field_theory.specs.Sums.{xor_sum, unit}
 use Rattle.gf_theory.specs.Field.{gf_mul}
 use Rattle.linear_theory.specs.Linear.{dot, AreIndependent, SameSpan, IsReduced, IsDual, IsFree}
@@ -46,3 +47,7 @@ beside_column rows n rhs i p = cond (nat_lt p n) (rows i p) (rhs i)
 
 abbrev pub residue_of : (ℕ → ℕ → ℕ) → ℕ → (ℕ → ℕ) → (ℕ → ℕ) → (ℕ → ℕ → ℕ) → ℕ → ℕ
 residue_of mul k pivots row rows j = xor_sum k (λ t. mul (row (pivots t)) (rows t j))
+
+abbrev pub plus_multiple : (ℕ → ℕ → ℕ) → ℕ → List ℕ → List ℕ → List ℕ
+plus_multiple mul x [] ys = []
+plus_multiple mul x (a ∷ xs) ys = bit_xor a (mul x (slice_index ys 0)) ∷ plus_multiple mul x xs (drop 1 ys)

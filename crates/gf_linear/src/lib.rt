@@ -1,7 +1,10 @@
 //! Linear algebra over a field: matrices, products of lists, ranks, the reduced row echelon form, dual lists and solutions.
-//! `Matrix` is the type; the functions take a field that meets `Field`.
+//! Start at `Matrix`; the functions take a field that meets `Field`.
+//!
+//! Everything rests on one elimination in place, `reduce` in `elimination.rt`, which works on the rows of a list.
 #![tactic(auto)]
 
+mod columns;
 mod duals;
 mod elimination;
 mod lists;

@@ -26,7 +26,11 @@ fn holds_symbols(m: &Matrix) -> bool
 }
 
 // A matrix over the field of four elements.
-fn matrix<const N: usize>(rt: &impl Abort, alloc: Global, rows: &[[u8; N]]) -> Result<Matrix, AllocError>
+fn matrix<const N: usize>(
+    rt: &impl Abort,
+    alloc: Global,
+    rows: &[[u8; N]],
+) -> Result<Matrix, AllocError>
     requires few_rows { length rows.now ≤ 1024 }
     requires few_cols { N ≤ 2048 }
     ensures over { IfOk result (IsOver 2) }
@@ -104,6 +108,22 @@ fn ranks_of_parts(rt: HostRuntime) -> Result<(), Fail> {
         assert!(rt; row == before && column == before);
         assert_eq!(rt; before, 1);
         assert_eq!(rt; part_residue(&f, &m, i, i, &mut room), 3);
+    }
+    Ok(())
+}
+
+#[test]
+fn columns_are_cleared(rt: HostRuntime) -> Result<(), Fail> {
+    let f = field_of_four(&rt);
+    for workers in [1, 2, 8] {
+        let mut m = matrix(&rt, rt.alloc(), &[[1, 2], [3, 1], [0, 1]])?;
+        assert_eq!(rt; m.row(0)[0], 1);
+        m.clear_column(&rt, &f, 0, 0, workers);
+        assert_eq!(rt; m.entries.as_slice(), [1, 2, 0, 0, 0, 1].as_slice());
+        let mut m = matrix(&rt, rt.alloc(), &[[2, 1], [1, 3], [3, 0]])?;
+        assert_eq!(rt; m.row(1)[0], 1);
+        m.clear_column(&rt, &f, 1, 0, workers);
+        assert_eq!(rt; m.entries.as_slice(), [0, 0, 1, 3, 0, 2].as_slice());
     }
     Ok(())
 }
