@@ -1,0 +1,4 @@
+pub mod CheckLemmas
+pub mod TextLemmas
+pub mod MemberLemmas
+pub mod RunLemmas

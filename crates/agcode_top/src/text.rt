@@ -1,0 +1,62 @@
+//! The text of the descriptor.
+
+ghost use Rattle.std.specs.Prelude.{◌≡◌, ℕ, ◌+◌, ◌≤◌, ◌++◌, length, IsTrue, IfOk, IfErr};
+ghost use Rattle.ag_io.specs.Counts.{Rose};
+ghost use Rattle.code_descriptor.specs.Meaning.{meaning};
+ghost use Rattle.agcode_top.specs.Texts.{IsReadFault, IsFront};
+
+use ag_io::{Filled, Source, fill};
+use std::alloc::{AllocError, Global};
+
+// The greatest length of a descriptor, and one more: a text that fills it is too large.
+const ROOM: usize = 1_048_577;
+
+/// Why the text of the descriptor was not read.
+#[derive(Clone, Copy, Debug, PartialEq, Eq)]
+pub enum TextFault {
+    NoMemory,
+    Fault,
+}
+
+impl From<AllocError> for TextFault {
+    ghost use Rattle.agcode_top.specs.declared.text.TextFault.TheVariants.{NoMemory};
+
+    ghost from_gives = { λ _ fault. fault ≡ NoMemory };
+
+    fn from(_: AllocError) -> TextFault {
+        TextFault::NoMemory
+    }
+}
+
+// Reads to the end of the source, but at most `room` bytes.
+fn read_at_most<D: Source>(
+    alloc: Global,
+    desc: &mut D,
+    room: usize,
+) -> Result<Vec<u8>, TextFault>
+    ensures front { IfOk result (λ text. IsTrue D.tells → IsFront room text.items (D.left desc.old) (D.left desc.new)) }
+    ensures fault { IfErr result (IsReadFault (D.faults desc.old) (D.faults desc.new)) }
+    ensures taken { IsTrue D.tells → length (D.left desc.old) ≤ length (D.left desc.new) + room }
+    ensures counted { D.faults desc.old ≤ D.faults desc.new }
+{
+    let mut text = vec![in alloc; 0u8; room]?;
+    match fill(desc, &mut text) {
+        Filled::Whole => Ok(text),
+        Filled::End { got } => {
+            text.truncate(got);
+            Ok(text)
+        }
+        Filled::Fault { .. } => Err(TextFault::Fault),
+    }
+}
+
+/// Reads the text of the descriptor, but no more than one byte beyond the greatest length. What is left out changes nothing
+/// of what the text means: it is too large.
+pub fn read_text<D: Source>(alloc: Global, desc: &mut D) -> Result<Vec<u8>, TextFault>
+    ensures text { IfOk result (λ text. IsTrue D.tells → meaning text.items ≡ meaning (D.left desc.old)) }
+    ensures fault { IfErr result (IsReadFault (D.faults desc.old) (D.faults desc.new)) }
+    ensures taken { IsTrue D.tells → length (D.left desc.old) ≤ length (D.left desc.new) + 1048577 }
+    ensures counted { D.faults desc.old ≤ D.faults desc.new }
+{
+    read_at_most(alloc, desc, ROOM)
+}
