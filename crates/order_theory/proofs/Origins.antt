@@ -80,7 +80,7 @@ module _ (mul : ℕ → ℕ → ℕ) (b : Basis) (field : IsField (2 ^ b.bits) m
       is_sum = λ p l. sym (unit_sum (2 ^ b.bits) mul field b.n (λ q. vector b q p) k lk ∙ ap (λ (y : ℕ). mul 1 y) (m.vectors k p lk l) ∙ field.one_mul (ev (rank_at b k) p) (o.symbols (rank_at b k) p));
     }
 
-    spanned_all : (r : ℕ) → r ≤ b.count → (u : ℕ) → u < r → IsSpannedBelow mul b (suc u) (ev u)
+    pub spanned_all : (r : ℕ) → r ≤ b.count → (u : ℕ) → u < r → IsSpannedBelow mul b (suc u) (ev u)
     spanned_all zero l u lu = absurd (omega arith)
     spanned_all (suc r) l u lu = elim (eq_or_below u r lu) [
       | inr d ↦ spanned_all r (omega arith) u d
