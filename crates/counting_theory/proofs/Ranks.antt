@@ -59,3 +59,7 @@ Decides-wrong R i j = wrong_number _ _ _ _
 pub candidate_same : (R Q : ℕ → ℕ → ℕ) (i j : ℕ) → R i j ≡ Q i j → R (i + 1) j ≡ Q (i + 1) j → R i (j + 1) ≡ Q i (j + 1) → candidate R i j ≡ candidate Q i j
 unfolding candidate
 candidate_same R Q i j e f g = cc
+
+pub wrong_same : (R Q : ℕ → ℕ → ℕ) (i j : ℕ) → R i j ≡ Q i j → R (i + 1) j ≡ Q (i + 1) j → R i (j + 1) ≡ Q i (j + 1) → R (i + 1) (j + 1) ≡ Q (i + 1) (j + 1) → wrong R i j ≡ wrong Q i j
+unfolding wrong candidate
+wrong_same R Q i j e f g h = cc

@@ -4,7 +4,8 @@ use Rattle.std.proofs.lemmas.Bool.{cases_eq, cases_lt, cases_order, cond-true, c
 use Rattle.std.proofs.Common.{◌≡◌, ◌≢◌, ◌⊎◌, ◌↔◌, ℕ, zero, suc, ◌+◌, ◌<◌, ◌≤◌, sym, ◌∙◌, ap, subst, refl, inl, inr, arith, bit_xor, cond, ltb, Bool, true, false, add-zero}
 use Rattle.field_theory.specs.Field.{IsField}
 use Rattle.field_theory.specs.Sums.{put, count_below, total}
-use Rattle.linear_theory.specs.Linear.{combine, IsCombination, rank, put_entry, is_wrong}
+use Rattle.linear_theory.specs.Linear.{combine, IsCombination, rank, put_entry}
+use Rattle.counting_theory.specs.Ranks.{wrong}
 use Rattle.field_theory.proofs.Sums.{xor_same, sum-zero, sum-only, eq_or_below, mul-zero, zero-mul, one_mul-mul, xor_below}
 use Rattle.linear_theory.proofs.Spans.{put-same, put-other, xor_back, combination_same, combination_xor, combination_more, combination_last, combination_through}
 use Rattle.linear_theory.proofs.Ranks.{rank_same, rank_more, rank_zero, combination_of_rank}
@@ -214,9 +215,9 @@ module _ (size : ℕ) (mul : ℕ → ℕ → ℕ) (field : IsField size mul) whe
         (keeps, λ y l d. one.3 y l (λ e. d (e ∙ sym is)))
 
     -- the wrong candidates of row i, as far as it is known: one where the row has a pivot there, else none
-    row_tally : (i : ℕ) → i < n → count_below (known i) (is_wrong (part_rank size mul field S) i) ≡ cond (ltb (pivot i) (known i)) 1 0
+    row_tally : (i : ℕ) → i < n → count_below (known i) (wrong (part_rank size mul field S) i) ≡ cond (ltb (pivot i) (known i)) 1 0
     row_tally i li =
-        row_tally_step (count_below (known i) (is_wrong (part_rank size mul field S) i)) (rank size mul (known i) S i) (rank size mul (known i) S (suc i)) (pivot i) (known i)
+        row_tally_step (count_below (known i) (wrong (part_rank size mul field S) i)) (rank size mul (known i) S i) (rank size mul (known i) S (suc i)) (pivot i) (known i)
         (row_wrongs size mul field S s i (known i))
         (λ l. rank_more size mul field (known i) S i (row_new i (known i) li (omega arith) l)) (λ l. rank_same size mul field (known i) S i (row_old i (known i) li (omega arith) l))
         (cases_lt (pivot i) (known i))
@@ -226,9 +227,9 @@ module _ (size : ℕ) (mul : ℕ → ℕ → ℕ) (field : IsField size mul) whe
         row_tally_step c a b p k e more same (inr l) = let f : b ≡ a = same l in let g : c ≡ 0 = omega arith in g ∙ sym (cond-false (ltb p k) 1 0 (le-ltb p k l))
 
     -- the wrong candidates among the known positions are as many as the rows with a pivot
-    pub pivot_tally : (r : ℕ) → r ≤ n → total r (λ i. count_below (known i) (is_wrong (part_rank size mul field S) i)) ≡ count_below r (λ i. ltb (pivot i) (known i))
+    pub pivot_tally : (r : ℕ) → r ≤ n → total r (λ i. count_below (known i) (wrong (part_rank size mul field S) i)) ≡ count_below r (λ i. ltb (pivot i) (known i))
     pivot_tally zero l = refl
     pivot_tally (suc r) l =
-        let ih : total r (λ i. count_below (known i) (is_wrong (part_rank size mul field S) i)) ≡ count_below r (λ i. ltb (pivot i) (known i)) = pivot_tally r (omega arith) in
-        ap (λ x. x + count_below (known r) (is_wrong (part_rank size mul field S) r)) ih
+        let ih : total r (λ i. count_below (known i) (wrong (part_rank size mul field S) i)) ≡ count_below r (λ i. ltb (pivot i) (known i)) = pivot_tally r (omega arith) in
+        ap (λ x. x + count_below (known r) (wrong (part_rank size mul field S) r)) ih
         ∙ ap (λ x. count_below r (λ i. ltb (pivot i) (known i)) + x) (row_tally r (omega arith))

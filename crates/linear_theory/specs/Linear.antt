@@ -55,14 +55,6 @@ pub record SameSpan (mul : ℕ → ℕ → ℕ) (n : ℕ) (rows : ℕ → ℕ �
   pub forth : (i : ℕ) → i < r → IsCombination mul n others s (rows i)
   pub back : (i : ℕ) → i < s → IsCombination mul n rows r (others i)
 
--- With R i j the rank of the first i rows and the first j columns: a position is a candidate where neither its row nor
--- its column adds to the rank of what is before it, and a candidate is wrong where both together do
-abbrev pub is_candidate : (ℕ → ℕ → ℕ) → ℕ → ℕ → Bool
-is_candidate R i j = eqb (R (suc i) j) (R i j) && eqb (R i (suc j)) (R i j)
-
-abbrev pub is_wrong : (ℕ → ℕ → ℕ) → ℕ → ℕ → Bool
-is_wrong R i j = is_candidate R i j && not (eqb (R (suc i) (suc j)) (R i j))
-
 -- The r rows are in reduced row echelon form, with k rows that are not 0: the pivot of row t is the first place at which
 -- it is not 0, the pivots rise, a pivot is 1 in its row and 0 in the other rows, and the rows from k on are 0
 pub record IsReduced (n : ℕ) (rows : ℕ → ℕ → ℕ) (r : ℕ) (k : ℕ) : Type 0 where

@@ -12,7 +12,8 @@ use Rattle.counting_theory.proofs.Bound.{pairs-le-rank}
 use Rattle.order_theory.specs.Basis.{Basis, IsSound, vector, dual, lead, rank_at, sum_at, pairs_at, HasLead}
 use Rattle.linear_theory.proofs.Functionals.{dot_xor}
 use Rattle.order_theory.proofs.Fields.{first_or_none, mul_not_zero}
-use Rattle.order_theory.proofs.Parts.{IsRank-rank, rank_of_zeros, zeros_of_rank}
+use Rattle.linear_theory.proofs.Wrongs.{IsRank-rank}
+use Rattle.order_theory.proofs.Parts.{rank_of_zeros, zeros_of_rank}
 use Rattle.order_theory.proofs.Shape.{dual_below, lead_below}
 use Rattle.order_theory.proofs.Known.{syn, entry_before, entry_at_member}
 use Rattle.order_theory.proofs.Weights.{weight_triangle}

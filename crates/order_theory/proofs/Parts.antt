@@ -1,5 +1,5 @@
 -- The ranks of the parts of a matrix, as the counting theory takes them, and the parts with no entry but 0
-use Rattle.std.proofs.Common.{subst, ◌≡◌, ℕ, zero, suc, ◌<◌, ◌≤◌, sym, ◌∙◌, ap, inl, inr, arith, eqb, add-one}
+use Rattle.std.proofs.Common.{subst, ◌≡◌, ℕ, zero, suc, ◌<◌, ◌≤◌, sym, ◌∙◌, ap, inl, inr, arith, eqb}
 use Rattle.std.proofs.lemmas.Bool.{cases_eq, cond-true, cond-false, eq-eqb, ne_eqb}
 use Rattle.field_theory.specs.Field.{IsField}
 use Rattle.field_theory.specs.Sums.{put}
@@ -7,8 +7,7 @@ use Rattle.linear_theory.specs.Linear.{combine, rank, put_entry, IsCombination}
 use Rattle.field_theory.proofs.Sums.{sum-zero, eq_or_below, mul-zero}
 use Rattle.linear_theory.proofs.Spans.{put-same, put-other, combination_zero}
 use Rattle.linear_theory.proofs.Corners.{put_entry-rank_same}
-use Rattle.linear_theory.proofs.Ranks.{rank_zero, rank_no_columns, rank_same, rank-le-more, rank_more-le, rank-le-column, rank_column-le, rank_corner, combination_of_rank}
-use Rattle.counting_theory.specs.Ranks.{IsRank}
+use Rattle.linear_theory.proofs.Ranks.{rank_zero, rank_same, rank-le-more, combination_of_rank}
 
 -- two matrices that agree but at (i, j) agree once it has one value in both
 pub put_entry_same : (S T : ℕ → ℕ → ℕ) (i j x q p : ℕ) → ((q ≡ i → p ≡ j → ⊥) → S q p ≡ T q p) → put_entry S i j x q p ≡ put_entry T i j x q p
@@ -27,15 +26,6 @@ put_entry_same S T i j x q p h = elim (cases_eq q i) [
 ]
 
 module _ (size : ℕ) (mul : ℕ → ℕ → ℕ) (field : IsField size mul) where
-  pub IsRank-rank : (n : ℕ) (S : ℕ → ℕ → ℕ) → ((i j : ℕ) → S i j < size) → IsRank n (λ i j. rank size mul j S i)
-  IsRank-rank n S b = record {
-    no_rows = λ j l. rank_zero size mul field j S;
-    no_columns = λ i l. rank_no_columns size mul field S i;
-    row = λ i j l m. rw (add-one i) (rank-le-more size mul field j S i, rank_more-le size mul field j S i);
-    column = λ i j l m. rw (add-one j) (rank-le-column size mul field j S i b, rank_column-le size mul field j S i b);
-    corner = λ i j l m. rw (add-one i, add-one j) (rank_corner size mul field j S i);
-  }
-
   -- a matrix of zeros has rank 0
   pub rank_of_zeros : (n : ℕ) (S : ℕ → ℕ → ℕ) (r : ℕ) → ((i j : ℕ) → i < r → j < n → S i j ≡ 0) → rank size mul n S r ≡ 0
   rank_of_zeros n S zero z = rank_zero size mul field n S

@@ -1,24 +1,19 @@
 -- A matrix of which the settled entries are those of S has S's ranks, candidates and pivots, as far as it is settled
 use Rattle.std.proofs.lemmas.Bool.{cases_eq, cond-true, cond-false, eq-eqb, ne_eqb}
-use Rattle.std.proofs.Common.{◌≡◌, ◌≢◌, ◌↔◌, ℕ, zero, suc, ◌+◌, ◌<◌, ◌≤◌, ◌^◌, sym, ◌∙◌, ap, refl, inl, inr, arith, eqb, ◌⊎◌}
+use Rattle.std.proofs.Common.{◌≡◌, ◌≢◌, ◌↔◌, ℕ, suc, ◌+◌, ◌<◌, ◌≤◌, ◌^◌, sym, ◌∙◌, ap, refl, inl, inr, arith, eqb, ◌⊎◌}
 use Rattle.std.specs.Prelude.{slice_index}
 use Rattle.gf_theory.specs.Field.{gf_mul}
 use Rattle.field_theory.specs.Field.{IsField}
 use Rattle.field_theory.specs.Sums.{put, count_below, total}
-use Rattle.linear_theory.specs.Linear.{rank, put_entry, is_wrong}
+use Rattle.field_theory.proofs.Totals.{total_same}
+use Rattle.linear_theory.specs.Linear.{rank, put_entry}
+use Rattle.counting_theory.specs.Ranks.{wrong}
+use Rattle.counting_theory.proofs.Ranks.{wrong_same}
 use Rattle.linear_theory.proofs.Spans.{put-same, put-other}
 use Rattle.linear_theory.proofs.Corners.{rank_rows, candidate_entry}
 use Rattle.growing_theory.proofs.Steps.{count_same}
 use Rattle.vote_matrix.specs.Matrix.{Matrix, cell, IsSettled, MaySettle, IsCandidate, KeepsRank, IsSound, part_rank, count_pivots}
 use Rattle.vote_matrix.proofs.FieldLaws.{gf_is_field}
-
-total_same : (n : ℕ) (f g : ℕ → ℕ) → ((i : ℕ) → i < n → f i ≡ g i) → total n f ≡ total n g
-total_same zero f g e = refl
-total_same (suc n) f g e = ap (λ x. x + f n) (total_same n f g (λ i l. e i (omega arith))) ∙ ap (λ x. total n g + x) (e n (omega arith))
-
--- the values at four corners decide
-wrong_same : (R Q : ℕ → ℕ → ℕ) (i j : ℕ) → R i j ≡ Q i j → R (suc i) j ≡ Q (suc i) j → R i (suc j) ≡ Q i (suc j) → R (suc i) (suc j) ≡ Q (suc i) (suc j) → is_wrong R i j ≡ is_wrong Q i j
-wrong_same R Q i j a b c d = rw (a, b, c, d) refl
 
 put_entry_at : (S : ℕ → ℕ → ℕ) (i j x : ℕ) → put_entry S i j x i j ≡ x
 put_entry_at S i j x = ap (λ (f : ℕ → ℕ). f j) (cond-true (eqb i i) (put (S i) j x) (S i) (eq-eqb i i refl)) ∙ put-same (S i) j x
@@ -73,15 +68,15 @@ module _ (v : Matrix) (S : ℕ → ℕ → ℕ) (sound : IsSound v) (agree : (p 
       candidate_entry (2 ^ v.bits) (gf_mul v.bits v.modulus) field S below i j x w.0 w.1 lx (kept_agrees i j x li lj m keeps)
 
   -- the pivots are the wrong candidates of S at the settled positions
-  pub pivots_agree : count_pivots v ≡ total v.n (λ i. count_below (slice_index v.known i) (is_wrong rank_of i))
+  pub pivots_agree : count_pivots v ≡ total v.n (λ i. count_below (slice_index v.known i) (wrong rank_of i))
   pivots_agree =
-      total_same v.n (λ i. count_below (slice_index v.known i) (is_wrong (part_rank v) i)) (λ i. count_below (slice_index v.known i) (is_wrong rank_of i))
-      (λ i li. count_same (slice_index v.known i) (is_wrong (part_rank v) i) (is_wrong rank_of i)
+      total_same v.n (λ i. count_below (slice_index v.known i) (wrong (part_rank v) i)) (λ i. count_below (slice_index v.known i) (wrong rank_of i))
+      (λ i li. count_same (slice_index v.known i) (wrong (part_rank v) i) (wrong rank_of i)
       (λ j lj.
       let wide : slice_index v.known i ≤ v.n = sound.width i li in
       let all : (p q : ℕ) → p < suc i → q < suc j → IsSettled v p q = λ p q lp lq. let f : slice_index v.known i ≤ slice_index v.known p = sound.falls p i (omega arith) li in omega arith in
       wrong_same (part_rank v) rank_of i j
       (part_agrees i j (omega arith) (omega arith) (λ p q lp lq. all p q (omega arith) (omega arith)))
-      (part_agrees (suc i) j (omega arith) (omega arith) (λ p q lp lq. all p q (omega arith) (omega arith)))
-      (part_agrees i (suc j) (omega arith) (omega arith) (λ p q lp lq. all p q (omega arith) (omega arith)))
-      (part_agrees (suc i) (suc j) (omega arith) (omega arith) all)))
+      (part_agrees (i + 1) j (omega arith) (omega arith) (λ p q lp lq. all p q (omega arith) (omega arith)))
+      (part_agrees i (j + 1) (omega arith) (omega arith) (λ p q lp lq. all p q (omega arith) (omega arith)))
+      (part_agrees (i + 1) (j + 1) (omega arith) (omega arith) (λ p q lp lq. all p q (omega arith) (omega arith)))))

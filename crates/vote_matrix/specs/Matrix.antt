@@ -2,7 +2,8 @@
 use Rattle.std.specs.Prelude.{◌≡◌, ℕ, suc, ◌+◌, ◌*◌, ◌<◌, ◌≤◌, ◌^◌, List, length, slice_index, slice_set, replicate}
 use Rattle.gf_theory.specs.Field.{gf_mul, IsModulus}
 use Rattle.field_theory.specs.Sums.{count_below, total}
-use Rattle.linear_theory.specs.Linear.{rank, put_entry, is_wrong}
+use Rattle.linear_theory.specs.Linear.{rank, put_entry}
+use Rattle.counting_theory.specs.Ranks.{wrong}
 
 -- the entry at row i, column j of an n by n matrix that is stored row by row
 abbrev pub cell : ℕ → List ℕ → ℕ → ℕ → ℕ
@@ -47,7 +48,7 @@ pub record KeepsRank (v : Matrix) (i j x : ℕ) : Type 0 where
 
 -- the number of settled positions that are candidates, and at which the rank up to row i and column j is greater
 abbrev pub count_pivots : Matrix → ℕ
-count_pivots v = total v.n (λ i. count_below (slice_index v.known i) (is_wrong (part_rank v) i))
+count_pivots v = total v.n (λ i. count_below (slice_index v.known i) (wrong (part_rank v) i))
 
 -- What holds of each such matrix: no row is settled further than the rows above it, and each entry is a symbol
 pub record IsSound (v : Matrix) : Type 0 where
