@@ -1,0 +1,49 @@
+-- damaged_from     the last bytes of a codeword where some of them are still to be changed: for each byte in turn a word is
+--                  drawn modulo the number of bytes left, and where it is below the number of changes left, the byte is
+--                  changed by another word; with the generator after them
+-- damaged          a codeword: first the number of changes is drawn, from 0 to t
+-- damaged_words    codewords, one after the other
+-- changes_in       the sum of the numbers of changes drawn for them
+-- total_distance   at how many positions two lists of codewords differ, in all
+-- DamageLaw        in a codeword exactly as many bytes are changed as were drawn, at most t
+use Rattle.std.specs.Prelude.{◌≡◌, ℕ, suc, ◌+◌, ◌-◌, ◌≤◌, nat_lt, bit_xor, List, [], ◌∷◌, length, if◌then◌else◌}
+use Rattle.rand_pcg.specs.Lcg.{Lcg}
+use Rattle.stored_form.specs.Form.{distance}
+use Rattle.ag_trial.specs.Words.{drawn, after_draw}
+
+-- a symbol is below `size`, and what is drawn to change one is from 1 to size - 1
+abbrev pub damaged_from : (size left : ℕ) → List ℕ → Lcg → List ℕ × Lcg
+damaged_from size left [] g = ([], g)
+damaged_from size left (x ∷ xs) g =
+    let here = after_draw g in
+    let changed = damaged_from size (left - 1) xs (after_draw here) in
+    let same = damaged_from size left xs here in
+    if nat_lt (drawn (suc (length xs)) g) left
+    then (bit_xor x (1 + drawn (size - 1) here) ∷ changed.0, changed.1)
+    else (x ∷ same.0, same.1)
+
+abbrev pub damaged : (size t : ℕ) → List ℕ → Lcg → List ℕ × Lcg
+damaged size t word g = damaged_from size (drawn (t + 1) g) word (after_draw g)
+
+abbrev pub damaged_words : (size t : ℕ) → List (List ℕ) → Lcg → List (List ℕ) × Lcg
+damaged_words size t [] g = ([], g)
+damaged_words size t (word ∷ words) g =
+    let here = damaged size t word g in
+    let rest = damaged_words size t words here.1 in
+    (here.0 ∷ rest.0, rest.1)
+
+abbrev pub changes_in : (size t : ℕ) → List (List ℕ) → Lcg → ℕ
+changes_in size t [] g = 0
+changes_in size t (word ∷ words) g = drawn (t + 1) g + changes_in size t words (damaged size t word g).1
+
+abbrev pub total_distance : List (List ℕ) → List (List ℕ) → ℕ
+total_distance (y ∷ ys) (x ∷ xs) = distance y x + total_distance ys xs
+total_distance [] xs = 0
+total_distance ys [] = 0
+
+pub record IsDamage (size t : ℕ) (word : List ℕ) (g : Lcg) : Type 0 where
+  pub as_drawn : distance (damaged size t word g).0 word ≡ drawn (t + 1) g
+  pub at_most : drawn (t + 1) g ≤ t
+
+abbrev pub DamageLaw : Type 0
+DamageLaw = (size t : ℕ) (word : List ℕ) (g : Lcg) → 2 ≤ size → t ≤ length word → IsDamage size t word g

@@ -1,0 +1,157 @@
+//! Files and damage from a number, for trials: the same number gives the same bytes and the same changes on every machine.
+//! Start at [`Trial::new`]. The generator is PCG32 of `rand_pcg`, and each draw is its next word modulo a bound; what is
+//! drawn, in which order, stands in specs/Words and specs/Damage. No call takes memory.
+#![tactic(auto)]
+
+ghost use Rattle.std.specs.Prelude.{ℕ, ◌≡◌, ◌≢◌, ◌+◌, ◌*◌, ◌^◌, ◌<◌, ◌≤◌, length, slice_index_or, []};
+ghost use Rattle.stored_form.specs.Form.{distance};
+ghost use Rattle.stored_form.specs.Group.{block_at, gather};
+ghost use Rattle.ag_frame.specs.Layouts.{IsLayout, bytes_in_group};
+ghost use Rattle.ag_trial.specs.Words.{trial_of, drawn, after_draw};
+ghost use Rattle.ag_trial.specs.Damage.{damaged, damaged_words, changes_in, total_distance, DamageLaw};
+
+use ag_frame::Layout;
+use rand_core::SeedableRng;
+use rand_core::utils::NextWord;
+use rand_pcg::Lcg64Xsh32;
+use std::marker::Model;
+
+/// A generator of bytes and of damage.
+#[derive(Drop)]
+pub struct Trial {
+    words: Lcg64Xsh32,
+}
+
+impl Model for Trial {
+    ghost use Rattle.rand_pcg.specs.Lcg.{Lcg};
+
+    ghost Value = { Lcg };
+
+    ghost view = { λ t. t.words };
+}
+
+/// In each codeword exactly as many bytes are changed as were drawn for it, at distinct positions, and at most t. The
+/// contract is the theorem.
+pub fn damage_is_as_drawn()
+    ensures { DamageLaw }
+{}
+
+impl Trial {
+    /// The generator of a seed.
+    #[tactic(auto, unfolding(crate::specs::Words::trial_of))]
+    pub fn new(seed: u64) -> Trial
+        ensures { result ≡ trial_of seed }
+    {
+        Trial {
+            words: Lcg64Xsh32::seed_from_u64(seed),
+        }
+    }
+
+    // The next word modulo `bound`.
+    #[tactic(auto, unfolding(crate::specs::Words::drawn, crate::specs::Words::after_draw))]
+    fn draw(&mut self, bound: u32) -> u32
+        requires { 0 < bound }
+        ensures value { result ≡ drawn bound self.old }
+        ensures small { result < bound }
+        ensures rest { self.new ≡ after_draw self.old }
+    {
+        self.words.next_word() % bound
+    }
+
+    /// The next byte of a file.
+    pub fn byte(&mut self) -> u8
+        ensures value { result ≡ drawn 256 self.old }
+        ensures rest { self.new ≡ after_draw self.old }
+    {
+        self.draw(256) as u8
+    }
+
+    // Changes up to `t` bytes of codeword `c` of the group, and answers how many.
+    fn damage_word(&mut self, layout: &Layout, t: u32, c: usize, group: &mut [u8]) -> u32
+        requires layout { IsLayout layout.now }
+        requires t { t ≤ layout.now.n }
+        requires c { c < layout.now.depth }
+        requires long { length group.old ≡ bytes_in_group layout.now }
+        ensures word { block_at layout.now.n layout.now.depth group.new c
+            ≡ (damaged (2 ^ layout.now.bits) t (block_at layout.now.n layout.now.depth group.old c) self.old).0 }
+        ensures others { (k : ℕ) → k < layout.now.depth → k ≢ c
+            → block_at layout.now.n layout.now.depth group.new k ≡ block_at layout.now.n layout.now.depth group.old k }
+        ensures rest { self.new ≡ (damaged (2 ^ layout.now.bits) t (block_at layout.now.n layout.now.depth group.old c) self.old).1 }
+        ensures changes { result ≡ drawn (t + 1) self.old }
+        ensures small { result ≤ t }
+    {
+        let changes = self.draw(t + 1);
+        let mut left = changes;
+        for p in 0..layout.n {
+            if self.draw(layout.n - p) < left {
+                let change = 1 + self.draw((1 << layout.bits) - 1);
+                group[(p * layout.depth) as usize + c] ^= change as u8;
+                left -= 1;
+            }
+        }
+        changes
+    }
+
+    /// Changes up to `t` bytes in each codeword of a stored group, and answers how many in all.
+    pub fn damage_group(&mut self, layout: &Layout, t: u32, group: &mut [u8]) -> u32
+        requires layout { IsLayout layout.now }
+        requires t { t ≤ layout.now.n }
+        requires long { length group.old ≡ bytes_in_group layout.now }
+        ensures words { gather layout.now.n layout.now.depth group.new
+            ≡ (damaged_words (2 ^ layout.now.bits) t (gather layout.now.n layout.now.depth group.old) self.old).0 }
+        ensures rest { self.new ≡ (damaged_words (2 ^ layout.now.bits) t (gather layout.now.n layout.now.depth group.old) self.old).1 }
+        ensures drawn { result ≡ changes_in (2 ^ layout.now.bits) t (gather layout.now.n layout.now.depth group.old) self.old }
+
+        // What follows from the three above: how far the words are from those before.
+        ensures changes { result ≡ total_distance (gather layout.now.n layout.now.depth group.new) (gather layout.now.n layout.now.depth group.old) }
+        ensures near { (c : ℕ) → c < layout.now.depth
+            → distance (block_at layout.now.n layout.now.depth group.new c) (block_at layout.now.n layout.now.depth group.old c) ≤ t }
+    {
+        let mut changes = 0;
+        for c in 0..layout.depth {
+            changes += self.damage_word(layout, t, c as usize, group);
+        }
+        changes
+    }
+}
+
+// The expected bytes were worked out apart from this code, from PCG32's definition.
+#[cfg(test)]
+mod tests {
+    use super::*;
+
+    #[test]
+    fn gives_the_bytes_of_a_seed(rt: HostRuntime) {
+        let cases = [
+            (1, [230, 238, 81, 192, 59, 232]),
+            (0x1_0000_0001, [97, 126, 203, 31, 79, 20]),
+            (u64::MAX, [126, 134, 12, 61, 202, 192]),
+        ];
+        for (seed, bytes) in cases {
+            let mut trial = Trial::new(seed);
+            for byte in bytes {
+                assert_eq!(rt; trial.byte(), byte);
+            }
+        }
+    }
+
+    #[test]
+    fn damages_a_group(rt: HostRuntime) {
+        let layout = Layout {
+            n: 8,
+            k: 3,
+            bits: 8,
+            depth: 2,
+        };
+        let mut trial = Trial::new(6);
+        let mut group = [0; 16];
+        assert_eq!(rt; trial.damage_group(&layout, 8, &mut group), 12);
+        let damaged = [
+            26, 0, 91, 58, 0, 5, 129, 0, 223, 204, 165, 210, 152, 0, 179, 109,
+        ];
+        assert_eq!(rt; group, damaged);
+        assert_eq!(rt; trial.byte(), 3);
+        assert_eq!(rt; trial.damage_group(&layout, 0, &mut group), 0);
+        assert_eq!(rt; group, damaged);
+    }
+}
