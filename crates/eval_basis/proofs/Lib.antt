@@ -7,3 +7,4 @@ pub mod Pushing
 pub mod Counting
 pub mod TableCounts
 pub mod Assembly
+pub mod ByLabels

@@ -4,3 +4,4 @@ pub mod Lists
 pub mod Found
 pub mod Flat
 pub mod Built
+pub mod ByLabels

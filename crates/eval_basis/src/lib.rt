@@ -2,6 +2,8 @@
 //! members are checked. Start at `EvalBasis`, whose type keeps that it is sound, and at `Checked`.
 #![tactic(auto)]
 
+ghost use Rattle.eval_basis.specs.ByLabels.{AtMostLaw};
+
 mod basis;
 mod build;
 mod checked;
@@ -11,3 +13,9 @@ mod tables;
 
 pub use basis::EvalBasis;
 pub use checked::{CheckRule, Checked};
+
+/// The code of the rule `AtMost` on a built basis is the set of the lists that are orthogonal to the values of all functions
+/// of the domain whose labels are at most the weight, members or not. The contract is the theorem.
+pub fn code_by_labels()
+    ensures { AtMostLaw }
+{}
