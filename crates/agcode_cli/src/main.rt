@@ -6,11 +6,10 @@ mod adapters;
 use adapters::{FileSource, ReadSource, WriteSink};
 use ag_pool::OpenGate;
 use std::alloc::{AllocError, Global};
-use std::env;
 use std::env::Env;
-use std::io;
 use std::io::ErrorKind;
 use std::process::ExitCode;
+use std::{env, io};
 
 // The words behind the program's own name.
 fn words<R: Env + AllocGlobal>(rt: &R) -> io::Result<Vec<String>> {

@@ -13,7 +13,7 @@ coordinates : (bits modulus : ℕ) (terms : List Term) (p : Point) → IsTrue (i
 unfolding is_on_curve
 coordinates bits modulus terms p h =
     let all : (((nat_lt p.x (2 ^ bits) && nat_lt p.y (2 ^ bits)) && p.z == 0) ≡ true) × ((value (gf_mul bits modulus) terms p.x p.y == 0) ≡ true) =
-        and_parts ((nat_lt p.x (2 ^ bits) && nat_lt p.y (2 ^ bits)) && p.z == 0) (value (gf_mul bits modulus) terms p.x p.y == 0) h in
+    and_parts ((nat_lt p.x (2 ^ bits) && nat_lt p.y (2 ^ bits)) && p.z == 0) (value (gf_mul bits modulus) terms p.x p.y == 0) h in
     let three : ((nat_lt p.x (2 ^ bits) && nat_lt p.y (2 ^ bits)) ≡ true) × ((p.z == 0) ≡ true) = and_parts (nat_lt p.x (2 ^ bits) && nat_lt p.y (2 ^ bits)) (p.z == 0) all.0 in
     let two : (nat_lt p.x (2 ^ bits) ≡ true) × (nat_lt p.y (2 ^ bits) ≡ true) = and_parts (nat_lt p.x (2 ^ bits)) (nat_lt p.y (2 ^ bits)) three.0 in
     (ltb-true p.x (2 ^ bits) two.0, ltb-true p.y (2 ^ bits) two.1)

@@ -19,11 +19,14 @@ member-yes p input out word text result e read good (inl h) =
       given = λ t. h.given t ∙ ap (λ (x : List ℕ). out.before ++ x) e;
     })
 member-yes p input out word text result e read good (inr h) =
-    subst (λ (s : Status). MemberEnded p input out s) (sym h.stopped) (h.failed, λ told. record {
-      status = Done;
-      said = subst (λ (w : List ℕ). IsCodeword (code_data p) w) (sym (read told)) good;
-      given = λ t. subst (λ (x : List ℕ). GavePart out.before out.after x) e (h.given t);
-    })
+    subst (λ (s : Status). MemberEnded p input out s) (sym h.stopped) (
+      h.failed,
+      λ told. record {
+        status = Done;
+        said = subst (λ (w : List ℕ). IsCodeword (code_data p) w) (sym (read told)) good;
+        given = λ t. subst (λ (x : List ℕ). GavePart out.before out.after x) e (h.given t);
+      },
+    )
 
 pub member-no : (p : Parts) (input out : Flow) (word text : List ℕ) (result : Status) → text ≡ plain_line_of (codes "not a codeword") → (IsTrue input.tells → input.before ≡ word) →
     length word ≡ length p.points → (IsCodeword (code_data p) word → ⊥) → GaveText out text NotCodeword result → MemberEnded p input out result
@@ -33,11 +36,14 @@ member-no p input out word text result e read n other (inl h) =
       given = λ t. h.given t ∙ ap (λ (x : List ℕ). out.before ++ x) e;
     })
 member-no p input out word text result e read n other (inr h) =
-    subst (λ (s : Status). MemberEnded p input out s) (sym h.stopped) (h.failed, λ told. record {
-      status = NotCodeword;
-      said = (ap length (read told) ∙ n, λ k. other (subst (λ (w : List ℕ). IsCodeword (code_data p) w) (read told) k));
-      given = λ t. subst (λ (x : List ℕ). GavePart out.before out.after x) e (h.given t);
-    })
+    subst (λ (s : Status). MemberEnded p input out s) (sym h.stopped) (
+      h.failed,
+      λ told. record {
+        status = NotCodeword;
+        said = (ap length (read told) ∙ n, λ k. other (subst (λ (w : List ℕ). IsCodeword (code_data p) w) (read told) k));
+        given = λ t. subst (λ (x : List ℕ). GavePart out.before out.after x) e (h.given t);
+      },
+    )
 
 pub codeword-at : (bits modulus : ℕ) (e : Equation) (ps qs : List Point) (weight : ℕ) (x y : List ℕ) → ps ≡ qs → x ≡ y → IsCodeword (data_of bits modulus e ps weight) x → IsCodeword (data_of bits modulus e qs weight) y
 codeword-at bits modulus e ps qs weight x y p w h =

@@ -17,6 +17,7 @@ depth = 1
 ";
 
 const CODEWORD: [u8; 8] = [1, 0, 0, 1, 2, 3, 1, 0];
+
 const FAR: [u8; 8] = [1, 1, 1, 0, 0, 0, 0, 0];
 
 // What a run leaves.
@@ -87,7 +88,13 @@ fn member_says_whether_a_word_is_in_the_code(rt: HostRuntime) -> Result<(), Fail
     assert_eq!(rt; left.status.code(), 1);
     assert_eq!(rt; left.out.bytes(), b"not a codeword\n".as_slice());
     // a byte that is no symbol
-    let left = plain(&rt, alloc, "member D", HERMITIAN_4, &[5, 0, 0, 1, 2, 3, 1, 0])?;
+    let left = plain(
+        &rt,
+        alloc,
+        "member D",
+        HERMITIAN_4,
+        &[5, 0, 0, 1, 2, 3, 1, 0],
+    )?;
     assert_eq!(rt; left.status, Status::NotCodeword);
     Ok(())
 }
@@ -111,7 +118,10 @@ fn other_words_are_usage(rt: HostRuntime) -> Result<(), Fail> {
     for line in ["", "member", "frob D", "member -D", "member D D"] {
         let left = plain(&rt, alloc, line, HERMITIAN_4, &CODEWORD)?;
         assert_eq!(rt; left.status, Status::Usage, "{line}");
-        assert_eq!(rt; left.report.bytes(), b"usage: agcode COMMAND [OPTIONS] DESC\n".as_slice());
+        assert_eq!(rt;
+            left.report.bytes(),
+            b"usage: agcode COMMAND [OPTIONS] DESC\n".as_slice()
+        );
     }
     Ok(())
 }

@@ -29,11 +29,7 @@ impl From<AllocError> for TextFault {
 }
 
 // Reads to the end of the source, but at most `room` bytes.
-fn read_at_most<D: Source>(
-    alloc: Global,
-    desc: &mut D,
-    room: usize,
-) -> Result<Vec<u8>, TextFault>
+fn read_at_most<D: Source>(alloc: Global, desc: &mut D, room: usize) -> Result<Vec<u8>, TextFault>
     ensures front { IfOk result (λ text. IsTrue D.tells → IsFront room text.items (D.left desc.old) (D.left desc.new)) }
     ensures fault { IfErr result (IsReadFault (D.faults desc.old) (D.faults desc.new)) }
     ensures taken { IsTrue D.tells → length (D.left desc.old) ≤ length (D.left desc.new) + room }

@@ -29,7 +29,7 @@ rises m (t ∷ ts) pairs all low = (
   low zero t (omega arith),
   all zero t (omega arith),
   rises (suc t.weight) ts (λ i j d l h. pairs (suc i) (suc j) d (omega arith) (omega arith)) (λ k d l. all (suc k) d (omega arith))
-  (λ k d l. pairs zero (suc k) d (omega arith) (omega arith)),
+      (λ k d l. pairs zero (suc k) d (omega arith) (omega arith)),
 )
 
 -- a list has no coefficient below its first weight

@@ -128,7 +128,12 @@ mod tests {
     ];
 
     // The label of each function, and its values at those of the points that are on the domain.
-    fn evaluations<F: Field, D: OrderDomain>(alloc: Global, f: &F, d: &D, points: &[Point]) -> Result<Vec<(u32, Vec<u8>)>, AllocError>
+    fn evaluations<F: Field, D: OrderDomain>(
+        alloc: Global,
+        f: &F,
+        d: &D,
+        points: &[Point],
+    ) -> Result<Vec<(u32, Vec<u8>)>, AllocError>
         requires { F.bits_of f.now ≡ (D.domain d.now).bits }
     {
         let mut rows = Vec::new(alloc);
@@ -145,7 +150,11 @@ mod tests {
     }
 
     // The lead of the square of each function, and the index of that square; (0, count) where the domain does not list it.
-    fn squares<F: Field, D: OrderDomain>(alloc: Global, f: &F, d: &D) -> Result<Vec<(u8, u32)>, AllocError>
+    fn squares<F: Field, D: OrderDomain>(
+        alloc: Global,
+        f: &F,
+        d: &D,
+    ) -> Result<Vec<(u8, u32)>, AllocError>
         requires { F.bits_of f.now ≡ (D.domain d.now).bits }
     {
         let mut squares = Vec::new(alloc);
@@ -178,13 +187,29 @@ mod tests {
         ];
         let rows = evaluations(alloc, &f, &domain, &points).expect(&rt, "memory");
         assert_eq!(rt; rows.len(), expected.len());
-        for ((label, values), (expected_label, expected_values)) in rows.iter().zip(expected.iter()) {
+        for ((label, values), (expected_label, expected_values)) in rows
+            .iter()
+            .zip(expected.iter())
+        {
             assert_eq!(rt; label, expected_label);
             assert_eq!(rt; values.as_slice(), &expected_values[..]);
         }
         // the functions 1, x and y have squares of weight 0, 4 and 6, and so on up to x^2
-        let expected = [(1, 0), (1, 3), (1, 5), (1, 7), (0, 9), (0, 9), (0, 9), (0, 9), (0, 9)];
-        assert_eq!(rt; squares(alloc, &f, &domain).expect(&rt, "memory").as_slice(), &expected[..]);
+        let expected = [
+            (1, 0),
+            (1, 3),
+            (1, 5),
+            (1, 7),
+            (0, 9),
+            (0, 9),
+            (0, 9),
+            (0, 9),
+            (0, 9),
+        ];
+        assert_eq!(rt;
+            squares(alloc, &f, &domain).expect(&rt, "memory").as_slice(),
+            &expected[..]
+        );
     }
 
     // On this curve y^2 is 3·x^3 + 3·y, since 2·3 is 1.
@@ -194,7 +219,20 @@ mod tests {
         let f = PolyField::new(2, 7).expect(&rt, "irreducible");
         let curve = Curve::new(alloc, &f, 2, 3, &SCALED).expect(&rt, "a curve");
         let domain = CabDomain::new(alloc, curve, 2).expect(&rt, "memory");
-        let expected = [(1, 0), (1, 3), (3, 5), (1, 7), (0, 9), (0, 9), (0, 9), (0, 9), (0, 9)];
-        assert_eq!(rt; squares(alloc, &f, &domain).expect(&rt, "memory").as_slice(), &expected[..]);
+        let expected = [
+            (1, 0),
+            (1, 3),
+            (3, 5),
+            (1, 7),
+            (0, 9),
+            (0, 9),
+            (0, 9),
+            (0, 9),
+            (0, 9),
+        ];
+        assert_eq!(rt;
+            squares(alloc, &f, &domain).expect(&rt, "memory").as_slice(),
+            &expected[..]
+        );
     }
 }

@@ -54,7 +54,10 @@ fn raised_terms(alloc: Global, shift: u32, coefficients: &[u8]) -> Result<Normal
     for weight in 0..coefficients.len() {
         let c = coefficients[weight];
         if c != 0 {
-            terms.push(NormTerm { weight: shift + weight as u32, c })?;
+            terms.push(NormTerm {
+                weight: shift + weight as u32,
+                c,
+            })?;
         }
     }
     Ok(Normal { terms })
@@ -62,7 +65,13 @@ fn raised_terms(alloc: Global, shift: u32, coefficients: &[u8]) -> Result<Normal
 
 impl Curve {
     /// The normal form of `x^i·y^j`: the one combination of functions of the curve that it equals modulo the equation.
-    pub fn normal<F: Field>(&self, alloc: Global, f: &F, i: u32, j: u32) -> Result<Normal, AllocError>
+    pub fn normal<F: Field>(
+        &self,
+        alloc: Global,
+        f: &F,
+        i: u32,
+        j: u32,
+    ) -> Result<Normal, AllocError>
         requires bits { F.bits_of f.now ≡ self.now.bits }
         requires i { i ≤ 1023 }
         requires j { j ≤ 62 }
@@ -84,14 +93,27 @@ mod tests {
     }
 
     // The pairs (weight, coefficient) of the normal form of x^i·y^j.
-    fn normal_pairs<F: Field>(alloc: Global, f: &F, a: u32, b: u32, equation: &[Term], i: u32, j: u32) -> Option<Vec<(u32, u8)>>
+    fn normal_pairs<F: Field>(
+        alloc: Global,
+        f: &F,
+        a: u32,
+        b: u32,
+        equation: &[Term],
+        i: u32,
+        j: u32,
+    ) -> Option<Vec<(u32, u8)>>
         requires few { length equation.now < 2 ^ 32 }
         requires i { i ≤ 1023 }
         requires j { j ≤ 62 }
     {
         let curve = Curve::new(alloc, f, a, b, equation).ok()?;
         let normal = curve.normal(alloc, f, i, j).ok()?;
-        normal.terms().iter().map(|t| (t.weight, t.c)).collect(alloc).ok()
+        normal
+            .terms()
+            .iter()
+            .map(|t| (t.weight, t.c))
+            .collect(alloc)
+            .ok()
     }
 
     #[test]
@@ -111,7 +133,10 @@ mod tests {
             (&with_constant[..], 0, 2, &[(0, 2), (3, 1), (6, 1)][..]),
         ];
         for (equation, i, j, expected) in cases {
-            let pairs = normal_pairs(alloc, &f, 2, 3, equation, i, j).expect(&rt, "a curve, and memory");
+            let pairs = normal_pairs(alloc, &f, 2, 3, equation, i, j).expect(
+                &rt,
+                "a curve, and memory",
+            );
             assert_eq!(rt; pairs.as_slice(), expected);
         }
     }
@@ -120,13 +145,46 @@ mod tests {
     fn states_the_relation_of_larger_curves(rt: HostRuntime) {
         let alloc = rt.alloc();
         let f = PolyField::new(4, 19).expect(&rt, "irreducible");
-        let relation = normal_pairs(alloc, &f, 4, 5, &[term(0, 4, 1), term(0, 1, 1), term(5, 0, 1)], 0, 4);
-        assert_eq!(rt; relation.expect(&rt, "memory").as_slice(), &[(5, 1), (20, 1)][..]);
+        let relation = normal_pairs(
+            alloc,
+            &f,
+            4,
+            5,
+            &[term(0, 4, 1), term(0, 1, 1), term(5, 0, 1)],
+            0,
+            4,
+        );
+        assert_eq!(rt;
+            relation.expect(&rt, "memory").as_slice(),
+            &[(5, 1), (20, 1)][..]
+        );
         let f = PolyField::new(6, 67).expect(&rt, "irreducible");
-        let relation = normal_pairs(alloc, &f, 8, 9, &[term(0, 8, 1), term(0, 1, 1), term(9, 0, 1)], 0, 8);
-        assert_eq!(rt; relation.expect(&rt, "memory").as_slice(), &[(9, 1), (72, 1)][..]);
+        let relation = normal_pairs(
+            alloc,
+            &f,
+            8,
+            9,
+            &[term(0, 8, 1), term(0, 1, 1), term(9, 0, 1)],
+            0,
+            8,
+        );
+        assert_eq!(rt;
+            relation.expect(&rt, "memory").as_slice(),
+            &[(9, 1), (72, 1)][..]
+        );
         let f = PolyField::new(3, 11).expect(&rt, "irreducible");
-        let relation = normal_pairs(alloc, &f, 4, 7, &[term(0, 4, 1), term(0, 2, 1), term(0, 1, 1), term(7, 0, 1)], 0, 4);
-        assert_eq!(rt; relation.expect(&rt, "memory").as_slice(), &[(7, 1), (14, 1), (28, 1)][..]);
+        let relation = normal_pairs(
+            alloc,
+            &f,
+            4,
+            7,
+            &[term(0, 4, 1), term(0, 2, 1), term(0, 1, 1), term(7, 0, 1)],
+            0,
+            4,
+        );
+        assert_eq!(rt;
+            relation.expect(&rt, "memory").as_slice(),
+            &[(7, 1), (14, 1), (28, 1)][..]
+        );
     }
 }

@@ -7,9 +7,10 @@ pub returns-clause-usage : goal.returns-clause-usage
 returns-clause-usage g c = elim c.match-read_words.branch [
   | in-None w ↦ (λ e v asked. w.in-None.ensures v asked.line, λ h. w.status-is)
   | in-Some+then-is_built w ↦
-      rw w.status-is
-      (λ e v asked. not_usage v.command _ _ _ _ (ended-for _ w.in-Some.asked v _ _ _ _ w.in-Some.ensures w.carry_out.ensures.ended asked) e,
-      λ h. absurd (h w.in-Some.asked (record { line = w.in-Some.ensures; built = sym w.is_built.ensures ∙ w.if-is_built.true })))
+      rw w.status-is (
+        λ e v asked. not_usage v.command _ _ _ _ (ended-for _ w.in-Some.asked v _ _ _ _ w.in-Some.ensures w.carry_out.ensures.ended asked) e,
+        λ h. absurd (h w.in-Some.asked (record { line = w.in-Some.ensures; built = sym w.is_built.ensures ∙ w.if-is_built.true })),
+      )
   | in-Some+else-is_built w ↦ (λ e v asked. not_built _ w.in-Some.asked v w.in-Some.ensures (sym w.is_built.ensures ∙ w.if-is_built.false) asked, λ h. w.status-is)
 ]
 

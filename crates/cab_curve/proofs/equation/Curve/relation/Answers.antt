@@ -41,7 +41,7 @@ invariant_of-result g c = record {
   weights =
       weights_of c.args.self.now _ _ _ _ c.a-a.ensures.curve (subst (λ (n : ℕ). IsModulus n (g.F.Field.modulus_of c.args.f.now)) c.requires (g.met.F.Field.is_modulus c.args.f.now))
       (relation_of c.args.self.now _ _ c.in-Some.semi.a c.in-Some.semi.b c.inv-unit.result c.loop-term.term-index c.terms-equation.result.now c.loop-term.terms.items
-    c.a-a.ensures.curve c.requires (g.met.F.Field.is_modulus c.args.f.now) (c.in-Some.ensures.generators.0 ∙ c.a-a.ensures.a) (c.in-Some.ensures.generators.1 ∙ c.b.ensures.b) c.terms-equation.ensures.terms
-    c.inv-unit.ensures.result_element (rw (c.in-Some.ensures.generators.0, ← c.coefficient.ensures) c.inv-unit.ensures.inverse) c.loop-term-test.false
-    (rw c.in-Some.ensures.generators.0 c.loop-term.invariant));
+      c.a-a.ensures.curve c.requires (g.met.F.Field.is_modulus c.args.f.now) (c.in-Some.ensures.generators.0 ∙ c.a-a.ensures.a) (c.in-Some.ensures.generators.1 ∙ c.b.ensures.b) c.terms-equation.ensures.terms
+      c.inv-unit.ensures.result_element (rw (c.in-Some.ensures.generators.0, ← c.coefficient.ensures) c.inv-unit.ensures.inverse) c.loop-term-test.false
+      (rw c.in-Some.ensures.generators.0 c.loop-term.invariant));
 }
