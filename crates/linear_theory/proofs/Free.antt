@@ -1,6 +1,6 @@
 -- The first columns of a reduced form, the columns without a pivot, and the one value at a candidate
 use Rattle.std.proofs.lemmas.Bool.{cases_lt, cases_eq}
-use Rattle.std.proofs.Common.{◌≡◌, ◌≢◌, ℕ, zero, suc, ◌+◌, ◌<◌, ◌≤◌, sym, ◌∙◌, ap, subst, inl, inr, arith}
+use Rattle.std.proofs.Common.{◌≡◌, ◌≢◌, ℕ, zero, suc, ◌+◌, ◌<◌, ◌≤◌, sym, ◌∙◌, ap, subst, refl, inl, inr, arith}
 use Rattle.field_theory.specs.Field.{IsField}
 use Rattle.field_theory.specs.Sums.{xor_sum, put}
 use Rattle.field_theory.proofs.Sums.{sum-same}
@@ -62,6 +62,10 @@ reduced_front {k = k} h j s l f = record {
     | inr u ↦ h.zeros i q u b (omega arith)
   ];
 }
+
+pub pivots-reduced_front : {n : ℕ} {rows : ℕ → ℕ → ℕ} {r k : ℕ} (h : IsReduced n rows r k) (j s : ℕ) (l : j ≤ n) (f : IsFront h.pivots k j s) (t : ℕ) → (reduced_front h j s l f).pivots t ≡ h.pivots t
+unfolding reduced_front
+pivots-reduced_front h j s l f t = refl
 
 module _ (size : ℕ) (mul : ℕ → ℕ → ℕ) (field : IsField size mul) where
   -- a column without a pivot adds nothing

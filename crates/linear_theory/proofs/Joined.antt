@@ -5,7 +5,7 @@ use Rattle.std.proofs.Common.{◌≡◌, ◌≢◌, ℕ, zero, suc, ◌+◌, ◌
 use Rattle.field_theory.specs.Field.{IsField}
 use Rattle.field_theory.specs.Sums.{any_below, unit}
 use Rattle.field_theory.proofs.Sums.{sum-same, sum_below, one_mul-mul}
-use Rattle.linear_theory.specs.Linear.{dot, combine, IsCombination, IsDual, IsSolution, IsReduced, IsFree, SameSpan, rank}
+use Rattle.linear_theory.specs.Linear.{dot, combine, IsCombination, IsDual, IsSolution, IsReduced, IsFree, SameSpan}
 use Rattle.linear_theory.proofs.Corners.{rank_rows}
 use Rattle.linear_theory.proofs.Duals.{sum_unit}
 use Rattle.linear_theory.proofs.Free.{reduced_not_free, free_span}

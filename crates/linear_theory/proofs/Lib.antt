@@ -16,3 +16,6 @@ pub mod Entries
 pub mod Free
 pub mod Joined
 pub mod Functionals
+pub mod Columns
+pub mod PivotColumns
+pub mod Picks

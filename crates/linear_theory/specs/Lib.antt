@@ -1,3 +1,4 @@
 pub mod Linear
-pub mod Tables
 pub mod Functionals
+pub mod Tables
+pub mod Laws

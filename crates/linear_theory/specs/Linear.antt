@@ -1,6 +1,27 @@
--- Linear algebra over a field `size`, `mul` (`IsField` of `Field`). A vector is a function from places, of which the
--- places below a length n count. A matrix is a function from row numbers to vectors, of which the rows below r count.
-use Rattle.std.specs.Prelude.{◌≡◌, ℕ, zero, suc, ◌+◌, ◌<◌, ◌≤◌, bit_xor, Bool, cond, eqb, ◌&&◌, not}
+-- dot                 the sum of the products of two vectors, place by place
+-- combine             an entry of the sum of a factor times each row
+-- IsCombination       a vector is a combination of rows
+-- AreIndependent      only the factors 0 make a combination of the rows that is 0
+-- AreNew              no row is a combination of the rows before it, which says the same
+-- in_span             the test that decides IsCombination
+-- rank                the number of rows that are no combination of the rows before them
+-- IsGreatestNumber    the greatest number of independent rows
+-- weight              the number of symbols other than 0
+-- syndromes           the matrix of the sums of the products of an error and two vectors
+-- put_entry           a matrix with another entry at one place
+-- IsDual              rows and a dual list of them
+-- SameSpan            two lists of rows have the same combinations
+-- IsReduced           rows in reduced row echelon form
+-- IsSolution          a solution of equations
+-- IsOrderedBasis      the rows that are no combination of the rows before them, in their order
+-- IsFree              a column that adds nothing to the rank of the columns before it
+-- IsCandidate         a position whose row and whose column add nothing to the rank of what is before them
+-- KeepsRank           a value at a candidate with which the rank up to it is that of what is before it
+--
+-- All over a field `size`, `mul` (`IsField` of field_theory). A vector is a function from places, of which the places
+-- below a length n count. A matrix is a function from row numbers to vectors, of which the rows below r count.
+-- Source: the linear algebra of any textbook; the names are those of S. Axler, "Linear Algebra Done Right".
+use Rattle.std.specs.Prelude.{◌≡◌, ℕ, zero, suc, ◌+◌, ◌<◌, ◌≤◌, bit_xor, Bool, cond, eqb}
 use Rattle.field_theory.specs.Sums.{xor_sum, any_below, all_below, put, unit}
 
 abbrev pub dot : (ℕ → ℕ → ℕ) → ℕ → (ℕ → ℕ) → (ℕ → ℕ) → ℕ
