@@ -8,3 +8,4 @@ pub mod Counting
 pub mod TableCounts
 pub mod Assembly
 pub mod ByLabels
+pub mod Determined

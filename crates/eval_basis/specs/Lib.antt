@@ -5,3 +5,4 @@ pub mod Found
 pub mod Flat
 pub mod Built
 pub mod ByLabels
+pub mod Determined

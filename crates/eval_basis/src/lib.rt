@@ -3,6 +3,7 @@
 #![tactic(auto)]
 
 ghost use Rattle.eval_basis.specs.ByLabels.{AtMostLaw};
+ghost use Rattle.eval_basis.specs.Determined.{DeterminedLaw};
 
 mod basis;
 mod build;
@@ -18,4 +19,10 @@ pub use checked::{CheckRule, Checked};
 /// of the domain whose labels are at most the weight, members or not. The contract is the theorem.
 pub fn code_by_labels()
     ensures { AtMostLaw }
+{}
+
+/// Sound bases that are built of one domain at one list of points, over the field of one modulus, are equal: a basis is
+/// determined by these. The contract is the theorem.
+pub fn basis_is_determined()
+    ensures { DeterminedLaw }
 {}

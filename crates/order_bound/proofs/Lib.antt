@@ -1,0 +1,10 @@
+pub mod Leasts
+pub mod Pieces
+pub mod Splits
+pub mod Fields
+pub mod Lines
+pub mod Counting
+pub mod Conversions
+pub mod Verdicts
+pub mod Tables
+pub mod Once

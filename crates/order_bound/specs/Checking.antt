@@ -1,0 +1,78 @@
+-- IsGrid          a flat list holds rows of n entries, row by row
+-- AreFunctions    labels and pairs of the functions of a domain
+-- IsIndexOf       the place of a label in a list of labels, or the list's length where it is not there
+-- AreIndices      the places of several labels
+-- IsLabelBy       the check of the label on line k, by these lists
+-- product_of      the product of dual list k with row i of the values
+-- VanishesBefore  the products of dual list k with the first rows are 0
+-- VanishesLater   and so are those with the functions of the later lines
+-- IsDualBy        the check of the dual list on line k, by these lists
+-- IsLeastFree     the least pairs of a line with no mark, if there is one
+-- IsHeadBy        the check of the second line, by these lists
+-- AreCounted      how often each index was the sum of a pair before pair (i, j)
+use Rattle.std.specs.Prelude.{◌≡◌, ◌≢◌, ℕ, suc, ◌+◌, ◌*◌, ◌^◌, ◌<◌, ◌≤◌, ◌==◌, Bool, true, false, List, length, count_by, slice_index, slice_index_or}
+use Rattle.std.specs.List.{slice_range}
+use Rattle.field_theory.specs.Sums.{total, one_if}
+use Rattle.gf_theory.specs.Field.{gf_mul}
+use Rattle.linear_theory.specs.Linear.{dot}
+use Rattle.counting_theory.specs.Votes.{pairs}
+use Rattle.order_theory.specs.Codes.{marked}
+use Rattle.order_domain.specs.Domain.{Domain, IsOrderDomain}
+use Rattle.order_domain.specs.Values.{sum_or_count}
+use Rattle.eval_basis.specs.declared.checked.CheckRule.{CheckRule}
+use Rattle.eval_basis.specs.Flat.{IsList}
+use Rattle.eval_basis.specs.Rules.{rule_checks}
+use Rattle.order_bound.specs.declared.functions.Functions.{Functions}
+
+pub record IsGrid (rows n : ℕ) (f : ℕ → ℕ → ℕ) (xs : List ℕ) : Type 0 where
+  pub long : length xs ≡ rows * n
+  pub entries : (i p : ℕ) → i < rows → p < n → slice_index xs (i * n + p) ≡ f i p
+
+pub record AreFunctions (d : Domain) (functions : Functions) : Type 0 where
+  pub lawful : IsOrderDomain d
+  pub few : d.count < 2 ^ 32
+  pub labels_fit : (i : ℕ) → i < d.count → d.label i < 2 ^ 32
+  pub labels_are : IsList d.count d.label functions.labels.items
+  pub pairs_are : IsList d.count (pairs d.count (sum_or_count d)) functions.pairs.items
+
+pub record IsIndexOf (labels : List ℕ) (label i : ℕ) : Type 0 where
+  pub within : i ≤ length labels
+  pub found : i < length labels → slice_index labels i ≡ label
+  pub missing : i ≡ length labels → (j : ℕ) → j < length labels → slice_index labels j ≢ label
+
+pub record AreIndices (labels said indices : List ℕ) : Type 0 where
+  pub long : length indices ≡ length said
+  pub each : (k : ℕ) → k < length said → IsIndexOf labels (slice_index said k) (slice_index indices k)
+
+pub record IsLabelBy (functions : Functions) (rule : CheckRule) (labels pairs : List ℕ) (marks : List Bool) (indices : List ℕ) (k : ℕ) : Type 0 where
+  pub found : slice_index indices k < length functions.labels.items
+  pub above : (j : ℕ) → k ≡ suc j → slice_index labels j < slice_index labels k
+  pub pairs_are : slice_index pairs k ≡ slice_index functions.pairs.items (slice_index indices k)
+  pub mark_is : marked marks k ≡ rule_checks rule (slice_index functions.labels.items (slice_index indices k)) (slice_index functions.pairs.items (slice_index indices k))
+
+abbrev pub product_of : (bits modulus n : ℕ) → List ℕ → List ℕ → ℕ → ℕ → ℕ
+product_of bits modulus n values duals k i = dot (gf_mul bits modulus) n (slice_index (slice_range duals (k * n) (k * n + n))) (slice_index (slice_range values (i * n) (i * n + n)))
+
+pub record VanishesBefore (bits modulus n : ℕ) (values duals : List ℕ) (k end : ℕ) : Type 0 where
+  pub each : (i : ℕ) → i < end → product_of bits modulus n values duals k i ≡ 0
+
+pub record VanishesLater (bits modulus n : ℕ) (values duals indices : List ℕ) (k : ℕ) : Type 0 where
+  pub each : (j : ℕ) → k < j → j < n → product_of bits modulus n values duals k (slice_index indices j) ≡ 0
+
+pub record IsDualBy (bits modulus n : ℕ) (values duals indices : List ℕ) (k : ℕ) : Type 0 where
+  pub before : VanishesBefore bits modulus n values duals k (slice_index indices k)
+  pub own : product_of bits modulus n values duals k (slice_index indices k) ≡ 1
+  pub later : VanishesLater bits modulus n values duals indices k
+
+pub record IsLeastFree (n : ℕ) (pairs : List ℕ) (marks : List Bool) (least : ℕ) : Type 0 where
+  pub reached : (k : ℕ) × (k < n) × (marked marks k ≡ false) × (slice_index pairs k ≡ least)
+  pub lower : (k : ℕ) → k < n → marked marks k ≡ false → least ≤ slice_index pairs k
+
+pub record IsHeadBy (checked bound : ℕ) (pairs : List ℕ) (marks : List Bool) : Type 0 where
+  pub checked_are : checked ≡ count_by (λ (m : Bool). m) marks
+  pub least : IsLeastFree (length marks) pairs marks bound
+
+pub record AreCounted (d : Domain) (i j : ℕ) (counts : List ℕ) : Type 0 where
+  pub long : length counts ≡ d.count
+  pub counts_are : (r : ℕ) → r < d.count →
+      slice_index counts r ≡ total i (λ u. total d.count (λ v. one_if (sum_or_count d u v == r))) + total j (λ v. one_if (sum_or_count d i v == r))

@@ -1,0 +1,6 @@
+pub mod Distance
+pub mod TableText
+pub mod TableForm
+pub mod Reading
+pub mod Checking
+pub mod TableChecks

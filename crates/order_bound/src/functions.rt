@@ -1,0 +1,88 @@
+//! What a domain says of its functions.
+
+ghost use Rattle.std.specs.Prelude.{ℕ, ◌≡◌, ◌+◌, ◌^◌, ◌<◌, ◌≤◌, All, length, IfOk};
+ghost use Rattle.counting_theory.specs.Votes.{pairs as pairs_of};
+ghost use Rattle.order_domain.specs.Domain.{ArePoints, IsOrderDomain};
+ghost use Rattle.order_domain.specs.Values.{value_at, sum_or_count};
+ghost use Rattle.eval_basis.specs.Flat.{IsList};
+ghost use Rattle.order_bound.specs.Checking.{IsGrid, AreFunctions, AreCounted};
+
+use gf_field::Field;
+use order_domain::{OrderDomain, Point};
+use std::alloc::{AllocError, Global};
+
+/// The label of each function of a domain, and how many pairs of functions have it as their sum.
+#[derive(Drop)]
+pub struct Functions {
+    pub labels: Vec<u32>,
+    pub pairs: Vec<u32>,
+}
+
+/// The functions of a domain.
+pub fn functions_of<D: OrderDomain>(alloc: Global, dom: &D) -> Result<Functions, AllocError>
+    ensures { IfOk result (AreFunctions (D.domain dom.now)) }
+{
+    dom.bits();
+    dom.count();
+    let labels = labels_of(alloc, dom)?;
+    let pairs = pair_counts_of(alloc, dom)?;
+    Ok(Functions { labels, pairs })
+}
+
+#[tactic(auto, using(eval_basis::proofs::Pushing::pushing))]
+fn labels_of<D: OrderDomain>(alloc: Global, dom: &D) -> Result<Vec<u32>, AllocError>
+    ensures labels { IfOk result (λ v. IsList (D.domain dom.now).count (D.domain dom.now).label v.items) }
+    ensures fit { IfOk result (λ v. (i : ℕ) → i < (D.domain dom.now).count → (D.domain dom.now).label i < 2 ^ 32) }
+{
+    let mut labels = Vec::with_capacity(alloc, dom.count() as usize)?;
+    for i in 0..dom.count() {
+        labels.push(dom.label(i))?;
+    }
+    Ok(labels)
+}
+
+fn pair_counts_of<D: OrderDomain>(alloc: Global, dom: &D) -> Result<Vec<u32>, AllocError>
+    ensures { IfOk result (λ v. IsList (D.domain dom.now).count (pairs_of (D.domain dom.now).count (sum_or_count (D.domain dom.now))) v.items) }
+{
+    let mut counts = vec![in alloc; 0u32; dom.count() as usize]?;
+    for i in 0..dom.count() {
+        count_row(dom, i, &mut counts);
+    }
+    Ok(counts)
+}
+
+/// Counts the sums of function i with each function.
+fn count_row<D: OrderDomain>(dom: &D, i: u32, counts: &mut [u32])
+    requires index { i < (D.domain dom.now).count }
+    requires counted { AreCounted (D.domain dom.now) i 0 counts.old }
+    ensures { AreCounted (D.domain dom.now) (i + 1) 0 counts.new }
+{
+    dom.bits();
+    for j in 0..dom.count() {
+        if let Some(sum) = dom.sum(i, j) {
+            counts[sum as usize] += 1;
+        }
+    }
+}
+
+/// The values of all functions at the points, row by row.
+pub fn values_of<F: Field, D: OrderDomain>(
+    alloc: Global,
+    f: &F,
+    dom: &D,
+    points: &[Point],
+) -> Result<Vec<u8>, AllocError>
+    requires bits { F.bits_of f.now ≡ (D.domain dom.now).bits }
+    requires few { length points.now ≤ 1024 }
+    requires points { ArePoints (D.domain dom.now) (F.modulus_of f.now) points.now }
+    ensures values { IfOk result (λ v. IsGrid (D.domain dom.now).count (length points.now) (value_at (D.domain dom.now) (F.modulus_of f.now) points.now) v.items) }
+    ensures symbols { IfOk result (λ v. All (λ x. x < 2 ^ F.bits_of f.now) v.items) }
+{
+    let mut values = Vec::with_capacity(alloc, dom.count() as usize * points.len())?;
+    for i in 0..dom.count() {
+        for p in 0..points.len() {
+            values.push(dom.eval(f, i, &points[p]))?;
+        }
+    }
+    Ok(values)
+}

@@ -1,0 +1,16 @@
+//! The order bound of a code, and its table: a text that anyone can check without building the code. Start at `bound`,
+//! whose contract has the distance theorem, then `table_text` and `check_table`.
+//!
+//! Source: T. Høholdt, J. H. van Lint, R. Pellikaan, "Algebraic geometry codes", in the Handbook of Coding Theory, 1998.
+#![tactic(auto)]
+
+mod checks;
+mod distance;
+mod functions;
+mod reader;
+mod table;
+mod writer;
+
+pub use distance::bound;
+pub use table::{TableSays, check_table};
+pub use writer::table_text;

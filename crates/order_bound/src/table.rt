@@ -1,0 +1,96 @@
+//! The check of a table.
+
+ghost use Rattle.std.specs.Prelude.{◌≡◌, ◌≤◌, ◌^◌, length, IfOk, MatchResult};
+ghost use Rattle.order_theory.specs.Basis.{Basis, IsSoundBasis};
+ghost use Rattle.order_domain.specs.Domain.{ArePoints};
+ghost use Rattle.eval_basis.specs.Built.{IsBuilt};
+ghost use Rattle.eval_basis.specs.Rules.{checked_by};
+ghost use Rattle.order_bound.specs.Checking.{AreFunctions};
+ghost use Rattle.order_bound.specs.Reading.{OnLine};
+ghost use Rattle.order_bound.specs.TableChecks.{IsAccepted, IsRefused, Says, SaysOfTable};
+
+use crate::checks::{first_bad_dual, first_bad_label, indices_of, is_good_head};
+use crate::functions::{Functions, functions_of, values_of};
+use crate::reader::{Stop, read_table};
+use eval_basis::CheckRule;
+use gf_field::Field;
+use order_domain::{OrderDomain, Point};
+use std::alloc::{AllocError, Global};
+
+/// What the checks of a table say.
+#[derive(Clone, Copy, PartialEq, Eq, Debug)]
+pub enum TableSays {
+    /// The text is the table, with this bound.
+    Accepted { bound: u32 },
+    /// A check fails, and names this line, counted from 1.
+    Refused { line: u32 },
+}
+
+/// Checks the table of the code on these points of a domain, whose members are checked by the rule. No basis is built: the
+/// checks are made from the values of the functions at the points. A text is accepted exactly where it is the table.
+pub fn check_table<F: Field, D: OrderDomain>(
+    alloc: Global,
+    f: &F,
+    dom: &D,
+    points: &[Point],
+    rule: CheckRule,
+    text: &[u8],
+) -> Result<TableSays, AllocError>
+    requires bits { F.bits_of f.now ≡ (D.domain dom.now).bits }
+    requires some_points { 1 ≤ length points.now }
+    requires few_points { length points.now ≤ 1024 }
+    requires points { ArePoints (D.domain dom.now) (F.modulus_of f.now) points.now }
+    ensures verdict { IfOk result (Says (D.domain dom.now) (F.modulus_of f.now) points.now rule text.now) }
+    ensures table { IfOk result (λ says. (b : Basis) → IsBuilt (D.domain dom.now) (F.modulus_of f.now) points.now b → IsSoundBasis b → SaysOfTable b (checked_by b rule) text.now says) }
+{
+    let functions = functions_of(alloc, dom)?;
+    match bound_of(alloc, f, dom, points, rule, &functions, text) {
+        Ok(bound) => Ok(TableSays::Accepted { bound }),
+        Err(Stop::Line(line)) => Ok(TableSays::Refused { line }),
+        Err(Stop::NoMemory) => Err(AllocError),
+    }
+}
+
+/// The bound of a table that passes all checks.
+fn bound_of<F: Field, D: OrderDomain>(
+    alloc: Global,
+    f: &F,
+    dom: &D,
+    points: &[Point],
+    rule: CheckRule,
+    functions: &Functions,
+    text: &[u8],
+) -> Result<u32, Stop>
+    requires bits { F.bits_of f.now ≡ (D.domain dom.now).bits }
+    requires functions { AreFunctions (D.domain dom.now) functions.now }
+    requires few_points { length points.now ≤ 1024 }
+    requires points { ArePoints (D.domain dom.now) (F.modulus_of f.now) points.now }
+    ensures { MatchResult result
+        (IsAccepted (D.domain dom.now) (F.modulus_of f.now) points.now rule text.now)
+        (λ stop. OnLine stop (IsRefused (D.domain dom.now) (F.modulus_of f.now) points.now rule text.now)) }
+{
+    let said = match read_table(alloc, text, points.len() as u32, symbol_count(f)) {
+        Ok(said) => said,
+        Err(stop) => return Err(stop),
+    };
+    let indices = indices_of(alloc, &functions.labels, &said.entries.labels)?;
+    if let Some(k) = first_bad_label(functions, rule, &said.entries, &indices) {
+        return Err(Stop::Line(k + 3));
+    }
+    let values = values_of(alloc, f, dom, points)?;
+    if let Some(k) = first_bad_dual(f, &values, &said.entries.duals, &indices) {
+        return Err(Stop::Line(k + 3));
+    }
+    if !is_good_head(&said) {
+        return Err(Stop::Line(2));
+    }
+    Ok(said.bound as u32)
+}
+
+/// How many symbols there are.
+fn symbol_count<F: Field>(f: &F) -> u64
+    ensures count { result ≡ 2 ^ F.bits_of f.now }
+    ensures few { result ≤ 256 }
+{
+    1 << f.bits()
+}
