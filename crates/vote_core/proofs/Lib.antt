@@ -1,8 +1,11 @@
 pub mod Entries
 pub mod Settled
+pub mod Copies
+pub mod Shifting
 pub mod RowVoting
 pub mod Tallies
 pub mod Courses
+pub mod Confirming
 pub mod Lines
 pub mod Underway
 pub mod States

@@ -35,6 +35,60 @@ advanced_none b w m s bits modulus n h e1 e2 e3 e =
       above = λ p q l lq f. absurd (omega arith);
     }
 
+-- an entry is settled with its value
+module _ (b : Basis) (w : List ℕ) (m : Matrix) (s u : ℕ) (a : IsAdvanced b w m s u) (i j x : ℕ) (li : i < b.n) (lj : j < b.n) (e : slice_index m.known i ≡ j) (next : MaySettle m i j) (l : sum_at b i j < s) (lx : x < 2 ^ b.bits) (is : x ≡ entry (times b) b w i j) where
+  row : i < m.n
+  row = let n : m.n ≡ b.n = a.n in omega arith
+
+  column : j < m.n
+  column = let n : m.n ≡ b.n = a.n in omega arith
+
+  symbol : x < 2 ^ m.bits
+  symbol = subst (λ (y : ℕ). x < 2 ^ y) (sym a.bits) lx
+
+  pub put_here : slice_index (settled_at m i j x).known i ≡ j + 1
+  put_here = reach_here m i j x a.sound row column next e symbol
+
+  pub put_there : (p : ℕ) → p ≢ i → slice_index (settled_at m i j x).known p ≡ slice_index m.known p
+  put_there p d = reach_there m i j x a.sound row column next e symbol p d
+
+  -- what was settled stays so
+  pub put_grows : (p q : ℕ) → IsSettled m p q → IsSettled (settled_at m i j x) p q
+  put_grows p q t = elim (cases_eq p i) [
+    | inr d ↦ let k : slice_index (settled_at m i j x).known p ≡ slice_index m.known p = put_there p d in omega arith
+    | inl f ↦
+        let k : slice_index (settled_at m i j x).known p ≡ j + 1 = ap (λ (r : ℕ). slice_index (settled_at m i j x).known r) f ∙ put_here in
+        let k' : slice_index m.known p ≡ j = ap (λ (r : ℕ). slice_index m.known r) f ∙ e in
+        omega arith
+  ]
+
+  pub advanced_put : IsAdvanced b w (settled_at m i j x) s 0
+  advanced_put =
+      let n : m.n ≡ b.n = a.n in
+      record {
+        bits = a.bits;
+        modulus = a.modulus;
+        n = a.n;
+        sound = sound_settled m i j x a.sound row column next e symbol;
+        entries = λ p q lp lq u. elim (cases_eq p i) [
+          | inr d ↦ entry_there m i j x a.sound row column next e symbol p q (omega arith) (λ f g. d f) ∙ a.entries p q lp lq (let k : slice_index (settled_at m i j x).known p ≡ slice_index m.known p = put_there p d in omega arith)
+          | inl f ↦ elim (cases_eq q j) [
+            | inl g ↦ ap (λ (r : ℕ). cell m.n (settled_at m i j x).entries r q) f ∙ ap (λ (r : ℕ). cell m.n (settled_at m i j x).entries i r) g ∙ entry_here m i j x a.sound row column next e symbol ∙ is
+                ∙ sym (ap (λ (r : ℕ). entry (times b) b w r q) f ∙ ap (λ (r : ℕ). entry (times b) b w i r) g)
+            | inr d ↦ entry_there m i j x a.sound row column next e symbol p q (omega arith) (λ g k. d k)
+                ∙ a.entries p q lp lq (let k : slice_index (settled_at m i j x).known p ≡ j + 1 = ap (λ (r : ℕ). slice_index (settled_at m i j x).known r) f ∙ put_here in let k' : slice_index m.known p ≡ j = ap (λ (r : ℕ). slice_index m.known r) f ∙ e in omega arith)
+          ]
+        ];
+        within = λ p q lp lq u. elim (cases_eq p i) [
+          | inr d ↦ a.within p q lp lq (let k : slice_index (settled_at m i j x).known p ≡ slice_index m.known p = put_there p d in omega arith)
+          | inl f ↦ elim (cases_eq q j) [
+            | inl g ↦ let same : sum_at b p q ≡ sum_at b i j = ap (λ (r : ℕ). sum_at b r q) f ∙ ap (λ (r : ℕ). sum_at b i r) g in omega arith
+            | inr d ↦ a.within p q lp lq (let k : slice_index (settled_at m i j x).known p ≡ j + 1 = ap (λ (r : ℕ). slice_index (settled_at m i j x).known r) f ∙ put_here in let k' : slice_index m.known p ≡ j = ap (λ (r : ℕ). slice_index m.known r) f ∙ e in omega arith)
+          ]
+        ];
+        above = λ p q lp lq v. absurd (omega arith);
+      }
+
 module _ (b : Basis) (w : List ℕ) (m : Matrix) (s i : ℕ) (h : IsSoundBasis b) (a : IsAdvanced b w m s i) where
   -- the next entry of row i may be settled
   pub may_settle : (j : ℕ) → i < b.n → j < b.n → slice_index m.known i ≡ j → sum_at b i j < s → s ≤ b.count → MaySettle m i j
@@ -52,37 +106,18 @@ module _ (b : Basis) (w : List ℕ) (m : Matrix) (s i : ℕ) (h : IsSoundBasis b
   pub advanced_more : (j x : ℕ) → i < b.n → j < b.n → slice_index m.known i ≡ j → sum_at b i j < s → s ≤ b.count → x < 2 ^ b.bits → x ≡ entry (times b) b w i j
       → IsAdvanced b w (settled_at m i j x) s i × (slice_index (settled_at m i j x).known i ≡ j + 1)
   advanced_more j x li lj e l few lx is =
-      let n : m.n ≡ b.n = a.n in
       let next : MaySettle m i j = may_settle j li lj e l few in
-      let row : i < m.n = omega arith in
-      let column : j < m.n = omega arith in
-      let symbol : x < 2 ^ m.bits = subst (λ (y : ℕ). x < 2 ^ y) (sym a.bits) lx in
-      let here : slice_index (settled_at m i j x).known i ≡ j + 1 = reach_here m i j x a.sound row column next e symbol in
-      let there : (p : ℕ) → p ≢ i → slice_index (settled_at m i j x).known p ≡ slice_index m.known p = λ p d. reach_there m i j x a.sound row column next e symbol p d in (
+      let put : IsAdvanced b w (settled_at m i j x) s 0 = advanced_put b w m s i a i j x li lj e next l lx is in (
         record {
-          bits = a.bits;
-          modulus = a.modulus;
-          n = a.n;
-          sound = sound_settled m i j x a.sound row column next e symbol;
-          entries = λ p q lp lq u. elim (cases_eq p i) [
-            | inr d ↦ entry_there m i j x a.sound row column next e symbol p q (omega arith) (λ f g. d f) ∙ a.entries p q lp lq (let k : slice_index (settled_at m i j x).known p ≡ slice_index m.known p = there p d in omega arith)
-            | inl f ↦ elim (cases_eq q j) [
-              | inl g ↦ ap (λ (r : ℕ). cell m.n (settled_at m i j x).entries r q) f ∙ ap (λ (r : ℕ). cell m.n (settled_at m i j x).entries i r) g ∙ entry_here m i j x a.sound row column next e symbol ∙ is
-                  ∙ sym (ap (λ (r : ℕ). entry (times b) b w r q) f ∙ ap (λ (r : ℕ). entry (times b) b w i r) g)
-              | inr d ↦ entry_there m i j x a.sound row column next e symbol p q (omega arith) (λ g k. d k)
-                  ∙ a.entries p q lp lq (let k : slice_index (settled_at m i j x).known p ≡ j + 1 = ap (λ (r : ℕ). slice_index (settled_at m i j x).known r) f ∙ here in let k' : slice_index m.known p ≡ j = ap (λ (r : ℕ). slice_index m.known r) f ∙ e in omega arith)
-            ]
-          ];
-          within = λ p q lp lq u. elim (cases_eq p i) [
-            | inr d ↦ a.within p q lp lq (let k : slice_index (settled_at m i j x).known p ≡ slice_index m.known p = there p d in omega arith)
-            | inl f ↦ elim (cases_eq q j) [
-              | inl g ↦ let same : sum_at b p q ≡ sum_at b i j = ap (λ (r : ℕ). sum_at b r q) f ∙ ap (λ (r : ℕ). sum_at b i r) g in omega arith
-              | inr d ↦ a.within p q lp lq (let k : slice_index (settled_at m i j x).known p ≡ j + 1 = ap (λ (r : ℕ). slice_index (settled_at m i j x).known r) f ∙ here in let k' : slice_index m.known p ≡ j = ap (λ (r : ℕ). slice_index m.known r) f ∙ e in omega arith)
-            ]
-          ];
-          above = λ p q lp lq u. let k : slice_index (settled_at m i j x).known p ≡ slice_index m.known p = there p (λ f. omega arith) in let v : q < slice_index m.known p = a.above p q lp lq u in omega arith;
+          bits = put.bits;
+          modulus = put.modulus;
+          n = put.n;
+          sound = put.sound;
+          entries = put.entries;
+          within = put.within;
+          above = λ p q lp lq u. put_grows b w m s i a i j x li lj e next l lx is p q (a.above p q lp lq u);
         },
-        here,
+        put_here b w m s i a i j x li lj e next l lx is,
       )
 
   -- row i is settled as far as the sums are below s

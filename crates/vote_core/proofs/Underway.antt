@@ -46,12 +46,12 @@ module _ (b : Basis) (marks : List Bool) (y w : List ℕ) (matrix : Matrix) (lin
     ledger = λ t e bound x. u.ledger t e bound x ∙ sym (lines_same b marks e k m);
   }
 
-  pub underway_turned : (w' : List ℕ) (matrix' : Matrix) (line : VoteLine) → k < b.n → length lines ≡ b.n → marked marks k ≡ false → IsTurn b w k w' line → IsWord b.bits b.n w' → IsAdvanced b w' matrix' (rank_at b k) b.n
+  pub underway_turned : (w' : List ℕ) (matrix' : Matrix) (line : VoteLine) → k < b.n → length lines ≡ b.n → marked marks k ≡ false → IsTurn b w k w' line → IsWord b.bits b.n w' → IsAdvanced b w' matrix' (rank_at b k + 1) 0
       → IsUnderway b marks y w' matrix' (set lines told line) (told + 1) (k + 1)
   underway_turned w' matrix' line lk long free turn ww a = record {
     word = ww;
     few = let f : told ≤ k = u.few in omega arith;
-    settled = λ m l lm. let up : rank_at b k < rank_at b m = h.sound.shape.ranks_rise k m (omega arith) lm in advanced_later b w' matrix' (rank_at b k) (rank_at b m) b.n (omega arith) a;
+    settled = λ m l lm. let up : rank_at b k < rank_at b m = h.sound.shape.ranks_rise k m (omega arith) lm in advanced_later b w' matrix' (rank_at b k + 1) (rank_at b m) 0 (omega arith) a;
     kept = λ m lm t. moved_keeps b w w' k turn.winner h lk turn.elected.symbol turn.moved m lm (λ e. both_ways (marked marks k) free (ap (λ (q : ℕ). marked marks q) (sym e) ∙ t)) ∙ u.kept m lm t;
     course = λ t e bound x. turn_right b marks t y e w w' k line h u.word lk turn bound free x (u.course t e bound x);
     ledger = λ t e bound x.

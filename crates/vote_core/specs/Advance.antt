@@ -1,6 +1,8 @@
 -- IsAdvanced    a growing matrix holds the matrix of a working list, as far as the sums are below a limit
 -- IsWeighed     a list holds the products of a working list and the vector of one member, place by place
+-- HasHere       a list has the entries of the rows above i that stand at pairs of one member, by row
 -- RowVotes      what one row says of a member: nothing, or the vote of the one candidate that it has
+-- AreVotes      a list has the votes of the rows above i, and numbers that are no symbols for rows without one
 use Rattle.std.specs.Prelude.{◌≡◌, ℕ, ◌<◌, ◌^◌, true, false, List, length, slice_index, All, Option, Some, None}
 use Rattle.counting_theory.specs.Ranks.{candidate}
 use Rattle.order_theory.specs.Basis.{Basis, times, vector, rank_at, sum_at}
@@ -24,6 +26,11 @@ pub record IsWeighed (b : Basis) (w row : List ℕ) (i : ℕ) : Type 0 where
   pub symbols : All (λ x. x < 2 ^ b.bits) row
   pub products : (p : ℕ) → p < b.n → slice_index row p ≡ times b (slice_index w p) (vector b i p)
 
+-- such a pair is the next entry of its row
+pub record HasHere (b : Basis) (w : List ℕ) (m : Matrix) (s : ℕ) (here : List ℕ) (i : ℕ) : Type 0 where
+  pub symbols : All (λ x. x < 2 ^ b.bits) here
+  pub at : (a : ℕ) → a < i → slice_index m.known a < b.n → sum_at b a (slice_index m.known a) ≡ s → slice_index here a ≡ entry (times b) b w a (slice_index m.known a)
+
 pub record HasNoVote (b : Basis) (w : List ℕ) (k i : ℕ) : Type 0 where
   pub none : (j : ℕ) → j < b.n → sum_at b i j ≡ rank_at b k → candidate (part_rank (times b) b w) i j ≡ false
 
@@ -38,3 +45,6 @@ pub record HasVote (b : Basis) (w : List ℕ) (k i v : ℕ) : Type 0 where
 abbrev pub RowVotes : Basis → List ℕ → ℕ → ℕ → Option ℕ → Type 0
 RowVotes b w k i None = HasNoVote b w k i
 RowVotes b w k i (Some v) = HasVote b w k i v
+
+pub record AreVotes (b : Basis) (w : List ℕ) (k : ℕ) (votes : List ℕ) (i : ℕ) : Type 0 where
+  pub at : (a : ℕ) → a < i → slice_index votes a < 2 ^ b.bits → HasVote b w k a (slice_index votes a)

@@ -2,6 +2,7 @@
 -- IsKept      what the fields of a voter keep
 use Rattle.std.specs.Prelude.{◌≡◌, ◌≤◌, ◌^◌, length, take}
 use Rattle.gf_theory.specs.Field.{IsModulus}
+use Rattle.vote_core.specs.Shifts.{AreShiftRooms}
 use Rattle.vote_core.specs.Voters.{VoterState}
 use Rattle.vote_core.specs.declared.voter.Voter.TheInside.{Inside}
 
@@ -20,8 +21,11 @@ pub record IsKept (v : Inside) : Type 0 where
   pub n_marks : length v.marks.items ≡ v.n
   pub n_lines : length v.lines.items ≡ v.n
   pub few : v.told ≤ v.n
-  pub matrix_bits : v.room.matrix.bits ≡ v.bits
-  pub matrix_modulus : v.room.matrix.modulus ≡ v.modulus
-  pub matrix_n : v.room.matrix.n ≡ v.n
-  pub row_long : length v.room.row.items ≡ v.n
+  pub matrix_bits : v.room.board.matrix.bits ≡ v.bits
+  pub matrix_modulus : v.room.board.matrix.modulus ≡ v.modulus
+  pub matrix_n : v.room.board.matrix.n ≡ v.n
+  pub row_long : length v.room.scratch.row.items ≡ v.n
+  pub here_long : length v.room.scratch.here.items ≡ v.n
+  pub votes_long : length v.room.scratch.votes.items ≡ v.n
   pub tally_long : length v.room.tally.items ≡ 2 ^ v.bits
+  pub shifts : AreShiftRooms v.n v.room.board.shifts

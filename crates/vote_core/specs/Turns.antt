@@ -1,21 +1,12 @@
--- IsRoom      the room of a vote has the field and the length of a basis
 -- IsTurn      the working list takes on the syndrome that wins the vote on one member, with the line of that vote
 -- Recovers    the working list becomes each error of weight at most t, and the lines become that error's ledger
-use Rattle.std.specs.Prelude.{◌≡◌, ℕ, ◌+◌, ◌*◌, ◌^◌, Bool, List, length}
+use Rattle.std.specs.Prelude.{◌≡◌, ℕ, ◌+◌, ◌*◌, Bool, List}
 use Rattle.order_theory.specs.Basis.{Basis, times, label, pairs_at}
 use Rattle.order_theory.specs.Codes.{IsBound}
 use Rattle.order_theory.specs.Course.{IsErrorOf, IsMoved}
 use Rattle.order_theory.specs.Voting.{IsElected, votes_at, candidates_at}
 use Rattle.vote_core.specs.Ledgers.{ledger_of}
 use Rattle.vote_core.specs.declared.ledger.VoteLine.{VoteLine}
-use Rattle.vote_core.specs.declared.turns.Room.{Room}
-
-pub record IsRoom (b : Basis) (room : Room) : Type 0 where
-  pub bits : room.matrix.bits ≡ b.bits
-  pub modulus : room.matrix.modulus ≡ b.modulus
-  pub n : room.matrix.n ≡ b.n
-  pub row_long : length room.row.items ≡ b.n
-  pub tally_long : length room.tally.items ≡ 2 ^ b.bits
 
 pub record IsTurn (b : Basis) (w : List ℕ) (k : ℕ) (w' : List ℕ) (line : VoteLine) : Type 0 where
   pub winner : ℕ

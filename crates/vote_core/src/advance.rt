@@ -1,11 +1,14 @@
-//! The matrix of a working list: its entries are settled along sums, row by row.
+//! The matrix of the working list: its entries are settled along sums, row by row.
 
-ghost use Rattle.std.specs.Prelude.{ℕ, ◌≡◌, ◌+◌, ◌<◌, ◌≤◌, ◌^◌, length, slice_index, All};
+ghost use Rattle.std.specs.Prelude.{ℕ, ◌≡◌, ◌+◌, ◌<◌, ◌≤◌, ◌^◌, List, length, slice_index, All, IfSome};
 ghost use Rattle.gf_theory.specs.Field.{gf_mul};
 ghost use Rattle.order_theory.specs.Basis.{times, IsWord};
 ghost use Rattle.order_theory.specs.Errors.{entry};
 ghost use Rattle.vote_core.specs.Advance.{IsAdvanced, IsWeighed};
+ghost use Rattle.vote_core.specs.Shifts.{HasShift, HasShifts};
 
+use crate::room::Board;
+use crate::shifts::Shift;
 use eval_basis::EvalBasis;
 use gf_field::Field;
 use gf_linear::dot;
@@ -26,7 +29,7 @@ fn multiply<F: Field>(f: &F, x: &[u8], y: &[u8], products: &mut [u8])
 }
 
 /// The products of the working list and the vector of member i.
-pub fn weigh<F: Field>(f: &F, basis: &EvalBasis, work: &[u8], i: u32, row: &mut [u8])
+fn weigh<F: Field>(f: &F, basis: &EvalBasis, work: &[u8], i: u32, row: &mut [u8])
     requires bits { F.bits_of f.now ≡ basis.now.bits }
     requires modulus { F.modulus_of f.now ≡ basis.now.modulus }
     requires word { IsWord basis.now.bits basis.now.n work.now }
@@ -38,7 +41,7 @@ pub fn weigh<F: Field>(f: &F, basis: &EvalBasis, work: &[u8], i: u32, row: &mut 
 }
 
 /// The entry (i, j), by the products of row i.
-pub fn entry_by<F: Field>(f: &F, basis: &EvalBasis, work: &[u8], i: u32, row: &[u8], j: u32) -> u8
+fn entry_by<F: Field>(f: &F, basis: &EvalBasis, work: &[u8], i: u32, row: &[u8], j: u32) -> u8
     requires bits { F.bits_of f.now ≡ basis.now.bits }
     requires modulus { F.modulus_of f.now ≡ basis.now.modulus }
     requires weighed { IsWeighed basis.now work.now row.now i }
@@ -49,37 +52,99 @@ pub fn entry_by<F: Field>(f: &F, basis: &EvalBasis, work: &[u8], i: u32, row: &[
     dot(f, row, basis.vector(j))
 }
 
+/// The entry (i, j), from the values of both members at the points.
+pub fn entry_at<F: Field>(
+    f: &F,
+    basis: &EvalBasis,
+    work: &[u8],
+    i: u32,
+    j: u32,
+    row: &mut [u8],
+) -> u8
+    requires bits { F.bits_of f.now ≡ basis.now.bits }
+    requires modulus { F.modulus_of f.now ≡ basis.now.modulus }
+    requires word { IsWord basis.now.bits basis.now.n work.now }
+    requires row { i < basis.now.n }
+    requires column { j < basis.now.n }
+    requires room { length row.old ≡ basis.now.n }
+    ensures value { result ≡ entry (times basis.now) basis.now work.now i j }
+    ensures symbol { result < 2 ^ basis.now.bits }
+{
+    weigh(f, basis, work, i, row);
+    entry_by(f, basis, work, i, row, j)
+}
+
+/// The entry (i, j), where it is the same as a settled one.
+fn copied_by(basis: &EvalBasis, shift: &Shift, matrix: &Growing, i: u32, j: u32) -> Option<u8>
+    requires size { matrix.now.n ≡ basis.now.n }
+    requires bits { matrix.now.bits ≡ basis.now.bits }
+    requires shift { HasShift basis.now shift.now }
+    requires row { i < basis.now.n }
+    requires column { j < basis.now.n }
+    ensures value { (w : List ℕ) (s k : ℕ) → IsAdvanced basis.now w matrix.now s k → IfSome result (λ x. x ≡ entry (times basis.now) basis.now w i j) }
+    ensures symbol { IfSome result (λ x. x < 2 ^ basis.now.bits) }
+{
+    let (row, column) = shift.source(basis, i, j)?;
+    if column < matrix.reach(row) {
+        Some(matrix.entry(row, column))
+    } else {
+        None
+    }
+}
+
+/// The entry (i, j), where it is the same as a settled one.
+fn copied(basis: &EvalBasis, board: &Board, i: u32, j: u32) -> Option<u8>
+    requires size { board.now.matrix.n ≡ basis.now.n }
+    requires bits { board.now.matrix.bits ≡ basis.now.bits }
+    requires shifts { HasShifts basis.now board.now.shifts }
+    requires row { i < basis.now.n }
+    requires column { j < basis.now.n }
+    ensures value { (w : List ℕ) (s k : ℕ) → IsAdvanced basis.now w board.now.matrix s k → IfSome result (λ x. x ≡ entry (times basis.now) basis.now w i j) }
+    ensures symbol { IfSome result (λ x. x < 2 ^ basis.now.bits) }
+{
+    match copied_by(basis, &board.shifts.first, &board.matrix, i, j) {
+        Some(x) => Some(x),
+        None => copied_by(basis, &board.shifts.second, &board.matrix, i, j),
+    }
+}
+
 /// Settles the entries of row i whose sums are below the limit.
-pub fn settle_row<F: Field>(
+fn settle_row<F: Field>(
     f: &F,
     basis: &EvalBasis,
     work: &[u8],
     limit: u32,
     i: u32,
+    board: &mut Board,
     row: &mut [u8],
-    matrix: &mut Growing,
 )
     requires bits { F.bits_of f.now ≡ basis.now.bits }
     requires modulus { F.modulus_of f.now ≡ basis.now.modulus }
     requires word { IsWord basis.now.bits basis.now.n work.now }
+    requires shifts { HasShifts basis.now board.old.shifts }
     requires limit { limit ≤ basis.now.count }
     requires member { i < basis.now.n }
     requires room { length row.old ≡ basis.now.n }
-    requires so_far { IsAdvanced basis.now work.now matrix.old limit i }
-    ensures { IsAdvanced basis.now work.now matrix.new limit (i + 1) }
+    requires so_far { IsAdvanced basis.now work.now board.old.matrix limit i }
+    ensures settled { IsAdvanced basis.now work.now board.new.matrix limit (i + 1) }
+    ensures shifts { HasShifts basis.now board.new.shifts }
 {
-    let start = matrix.reach(i);
-    let n = basis.n();
-    if start == n || basis.sum_at(i, start) >= limit {
-        return;
-    }
-    weigh(f, basis, work, i, row);
-    for j in start..n {
+    let mut is_weighed = false;
+    for j in board.matrix.reach(i)..basis.n() {
         if basis.sum_at(i, j) >= limit {
             return;
         }
-        let value = entry_by(f, basis, work, i, row, j);
-        matrix.settle(f, i, j, value);
+        let value = match copied(basis, board, i, j) {
+            Some(x) => x,
+            None => {
+                if !is_weighed {
+                    weigh(f, basis, work, i, row);
+                    is_weighed = true;
+                }
+                entry_by(f, basis, work, i, row, j)
+            }
+        };
+        board.matrix.settle(f, i, j, value);
     }
 }
 
@@ -89,18 +154,20 @@ pub fn settle_below<F: Field>(
     basis: &EvalBasis,
     work: &[u8],
     limit: u32,
+    board: &mut Board,
     row: &mut [u8],
-    matrix: &mut Growing,
 )
     requires bits { F.bits_of f.now ≡ basis.now.bits }
     requires modulus { F.modulus_of f.now ≡ basis.now.modulus }
     requires word { IsWord basis.now.bits basis.now.n work.now }
+    requires shifts { HasShifts basis.now board.old.shifts }
     requires limit { limit ≤ basis.now.count }
     requires room { length row.old ≡ basis.now.n }
-    requires so_far { IsAdvanced basis.now work.now matrix.old limit 0 }
-    ensures { IsAdvanced basis.now work.now matrix.new limit basis.now.n }
+    requires so_far { IsAdvanced basis.now work.now board.old.matrix limit 0 }
+    ensures settled { IsAdvanced basis.now work.now board.new.matrix limit basis.now.n }
+    ensures shifts { HasShifts basis.now board.new.shifts }
 {
     for i in 0..basis.n() {
-        settle_row(f, basis, work, limit, i, row, matrix);
+        settle_row(f, basis, work, limit, i, board, row);
     }
 }

@@ -1,14 +1,18 @@
 //! The vote on one member.
 
-ghost use Rattle.std.specs.Prelude.{ℕ, ◌≡◌, ◌+◌, ◌<◌, ◌≤◌, ◌^◌, length};
+ghost use Rattle.std.specs.Prelude.{ℕ, ◌≡◌, ◌+◌, ◌<◌, ◌≤◌, ◌^◌, List, length, slice_index, All, IfSome};
 ghost use Rattle.std.specs.List.{IsFirstMaxByKey};
 ghost use Rattle.order_theory.specs.Basis.{times, rank_at as rank_of, IsWord};
-ghost use Rattle.order_theory.specs.Errors.{syndrome as syndrome_of};
+ghost use Rattle.order_theory.specs.Errors.{entry, syndrome as syndrome_of};
 ghost use Rattle.order_theory.specs.Voting.{IsElected, votes_at, candidates_at};
-ghost use Rattle.vote_core.specs.Advance.{IsAdvanced, RowVotes};
+ghost use Rattle.vote_core.specs.Advance.{IsAdvanced, HasHere, RowVotes, AreVotes};
+ghost use Rattle.vote_core.specs.Shifts.{HasShift, HasShifts};
+ghost use Rattle.vote_core.specs.Rooms.{IsScratch};
 
-use crate::advance::{entry_by, weigh};
+use crate::advance::entry_at;
 use crate::course::syndrome;
+use crate::room::{Board, Scratch};
+use crate::shifts::Shift;
 use eval_basis::EvalBasis;
 use gf_field::Field;
 use vote_matrix::Growing;
@@ -22,6 +26,85 @@ pub struct Election {
     pub votes: u32,
     /// How many candidates there were.
     pub candidates: u32,
+    /// The syndrome of the working list.
+    pub known: u8,
+}
+
+/// The entry of row i at its pair (i, j), where it is that of a row above at its own pair of the same sum.
+fn copied_by(
+    basis: &EvalBasis,
+    shift: &Shift,
+    matrix: &Growing,
+    sum: u32,
+    here: &[u8],
+    i: u32,
+    j: u32,
+) -> Option<u8>
+    requires size { matrix.now.n ≡ basis.now.n }
+    requires shift { HasShift basis.now shift.now }
+    requires room { length here.now ≡ basis.now.n }
+    requires row { i < basis.now.n }
+    requires column { j < basis.now.n }
+    ensures value { (w : List ℕ) → HasHere basis.now w matrix.now sum here.now i → IfSome result (λ x. x ≡ entry (times basis.now) basis.now w i j) }
+    ensures symbol { (w : List ℕ) → HasHere basis.now w matrix.now sum here.now i → IfSome result (λ x. x < 2 ^ basis.now.bits) }
+{
+    let (row, column) = shift.source(basis, i, j)?;
+    if row < i && column == matrix.reach(row) && basis.sum_at(row, column) == sum {
+        Some(here[row as usize])
+    } else {
+        None
+    }
+}
+
+/// The entry of row i at its pair (i, j), where it is that of a row above at its own pair of the same sum.
+fn copied(basis: &EvalBasis, board: &Board, sum: u32, here: &[u8], i: u32, j: u32) -> Option<u8>
+    requires size { board.now.matrix.n ≡ basis.now.n }
+    requires shifts { HasShifts basis.now board.now.shifts }
+    requires room { length here.now ≡ basis.now.n }
+    requires row { i < basis.now.n }
+    requires column { j < basis.now.n }
+    ensures value { (w : List ℕ) → HasHere basis.now w board.now.matrix sum here.now i → IfSome result (λ x. x ≡ entry (times basis.now) basis.now w i j) }
+    ensures symbol { (w : List ℕ) → HasHere basis.now w board.now.matrix sum here.now i → IfSome result (λ x. x < 2 ^ basis.now.bits) }
+{
+    match copied_by(basis, &board.shifts.first, &board.matrix, sum, here, i, j) {
+        Some(x) => Some(x),
+        None => copied_by(basis, &board.shifts.second, &board.matrix, sum, here, i, j),
+    }
+}
+
+/// The entry of row i at its pair (i, j). It is written down.
+fn entry_here<F: Field>(
+    f: &F,
+    basis: &EvalBasis,
+    work: &[u8],
+    sum: u32,
+    i: u32,
+    j: u32,
+    board: &Board,
+    scratch: &mut Scratch,
+) -> u8
+    requires bits { F.bits_of f.now ≡ basis.now.bits }
+    requires modulus { F.modulus_of f.now ≡ basis.now.modulus }
+    requires word { IsWord basis.now.bits basis.now.n work.now }
+    requires size { board.now.matrix.n ≡ basis.now.n }
+    requires row { i < basis.now.n }
+    requires column { j < basis.now.n }
+    requires next { j ≡ slice_index board.now.matrix.known i }
+    requires scratch { IsScratch basis.now scratch.old }
+    requires shifts { HasShifts basis.now board.now.shifts }
+    requires above { HasHere basis.now work.now board.now.matrix sum scratch.old.here.items i }
+    ensures value { result ≡ entry (times basis.now) basis.now work.now i j }
+    ensures symbol { result < 2 ^ basis.now.bits }
+    ensures above { HasHere basis.now work.now board.now.matrix sum scratch.new.here.items (i + 1) }
+    ensures votes { scratch.new.votes ≡ scratch.old.votes }
+    ensures scratch { IsScratch basis.now scratch.new }
+{
+    let entry = match copied(basis, board, sum, &scratch.here, i, j) {
+        Some(x) => x,
+        None => entry_at(f, basis, work, i, j, &mut scratch.row),
+    };
+    scratch.here[i as usize] = entry;
+    entry
 }
 
 /// What row i says of member k, whose syndrome of the working list is `known`.
@@ -32,8 +115,8 @@ fn row_vote<F: Field>(
     k: u32,
     known: u8,
     i: u32,
-    row: &mut [u8],
-    matrix: &Growing,
+    board: &Board,
+    scratch: &mut Scratch,
 ) -> Option<u8>
     requires bits { F.bits_of f.now ≡ basis.now.bits }
     requires modulus { F.modulus_of f.now ≡ basis.now.modulus }
@@ -41,19 +124,65 @@ fn row_vote<F: Field>(
     requires member { k < basis.now.n }
     requires known { known ≡ syndrome_of (times basis.now) basis.now work.now k }
     requires row { i < basis.now.n }
-    requires room { length row.old ≡ basis.now.n }
-    requires settled { IsAdvanced basis.now work.now matrix.now (rank_of basis.now k) basis.now.n }
-    ensures { RowVotes basis.now work.now k i result }
+    requires scratch { IsScratch basis.now scratch.old }
+    requires shifts { HasShifts basis.now board.now.shifts }
+    requires settled { IsAdvanced basis.now work.now board.now.matrix (rank_of basis.now k) basis.now.n }
+    requires above { HasHere basis.now work.now board.now.matrix (rank_of basis.now k) scratch.old.here.items i }
+    ensures vote { RowVotes basis.now work.now k i result }
+    ensures above { HasHere basis.now work.now board.now.matrix (rank_of basis.now k) scratch.new.here.items (i + 1) }
+    ensures votes { scratch.new.votes ≡ scratch.old.votes }
+    ensures scratch { IsScratch basis.now scratch.new }
 {
-    let j = matrix.reach(i);
-    if j == basis.n() || basis.sum_at(i, j) != basis.rank_at(k) || !matrix.candidate(i, j) {
+    let sum = basis.rank_at(k);
+    let j = board.matrix.reach(i);
+    if j == basis.n() || basis.sum_at(i, j) != sum {
         return None;
     }
-    let kept = matrix.residue(f, i, j);
-    weigh(f, basis, work, i, row);
-    let here = entry_by(f, basis, work, i, row, j);
+    let entry = entry_here(f, basis, work, sum, i, j, board, scratch);
+    if !board.matrix.candidate(i, j) {
+        return None;
+    }
+    let kept = board.matrix.residue(f, i, j);
     let inverse = f.inv(basis.lead(i, j));
-    Some(f.add(f.mul(inverse, f.add(kept, here)), known))
+    Some(f.add(f.mul(inverse, f.add(kept, entry)), known))
+}
+
+/// A number that is no symbol.
+const NO_VOTE: u32 = 256;
+
+/// What row i says of member k. It is written down.
+fn cast_vote<F: Field>(
+    f: &F,
+    basis: &EvalBasis,
+    work: &[u8],
+    k: u32,
+    known: u8,
+    i: u32,
+    board: &Board,
+    scratch: &mut Scratch,
+) -> Option<u8>
+    requires bits { F.bits_of f.now ≡ basis.now.bits }
+    requires modulus { F.modulus_of f.now ≡ basis.now.modulus }
+    requires word { IsWord basis.now.bits basis.now.n work.now }
+    requires member { k < basis.now.n }
+    requires known { known ≡ syndrome_of (times basis.now) basis.now work.now k }
+    requires row { i < basis.now.n }
+    requires scratch { IsScratch basis.now scratch.old }
+    requires shifts { HasShifts basis.now board.now.shifts }
+    requires settled { IsAdvanced basis.now work.now board.now.matrix (rank_of basis.now k) basis.now.n }
+    requires above { HasHere basis.now work.now board.now.matrix (rank_of basis.now k) scratch.old.here.items i }
+    requires votes { AreVotes basis.now work.now k scratch.old.votes.items i }
+    ensures vote { RowVotes basis.now work.now k i result }
+    ensures above { HasHere basis.now work.now board.now.matrix (rank_of basis.now k) scratch.new.here.items (i + 1) }
+    ensures votes { AreVotes basis.now work.now k scratch.new.votes.items (i + 1) }
+    ensures scratch { IsScratch basis.now scratch.new }
+{
+    let vote = row_vote(f, basis, work, k, known, i, board, scratch);
+    scratch.votes[i as usize] = match vote {
+        Some(v) => u32::from(v),
+        None => NO_VOTE,
+    };
+    vote
 }
 
 /// The least value with the greatest tally.
@@ -76,26 +205,32 @@ pub fn elect<F: Field>(
     basis: &EvalBasis,
     work: &[u8],
     k: u32,
-    row: &mut [u8],
-    matrix: &Growing,
+    board: &Board,
+    scratch: &mut Scratch,
     tally: &mut [u32],
 ) -> Election
     requires bits { F.bits_of f.now ≡ basis.now.bits }
     requires modulus { F.modulus_of f.now ≡ basis.now.modulus }
     requires word { IsWord basis.now.bits basis.now.n work.now }
     requires member { k < basis.now.n }
-    requires room { length row.old ≡ basis.now.n }
+    requires scratch { IsScratch basis.now scratch.old }
     requires tally_len { length tally.old ≡ 2 ^ basis.now.bits }
-    requires settled { IsAdvanced basis.now work.now matrix.now (rank_of basis.now k) basis.now.n }
+    requires shifts { HasShifts basis.now board.now.shifts }
+    requires settled { IsAdvanced basis.now work.now board.now.matrix (rank_of basis.now k) basis.now.n }
     ensures elected { IsElected (times basis.now) basis.now work.now k result.winner }
     ensures votes { result.votes ≡ votes_at (times basis.now) basis.now work.now k result.winner }
     ensures candidates { result.candidates ≡ candidates_at (times basis.now) basis.now work.now k }
+    ensures above { HasHere basis.now work.now board.now.matrix (rank_of basis.now k) scratch.new.here.items basis.now.n }
+    ensures all_votes { AreVotes basis.now work.now k scratch.new.votes.items basis.now.n }
+    ensures known { result.known ≡ syndrome_of (times basis.now) basis.now work.now k }
+    ensures scratch { IsScratch basis.now scratch.new }
 {
     tally.fill(0);
+    scratch.here.fill(0);
     let known = syndrome(f, basis, work, k);
     let mut candidates = 0;
     for i in 0..basis.n() {
-        if let Some(v) = row_vote(f, basis, work, k, known, i, row, matrix) {
+        if let Some(v) = cast_vote(f, basis, work, k, known, i, board, scratch) {
             tally[v as usize] += 1;
             candidates += 1;
         }
@@ -105,5 +240,6 @@ pub fn elect<F: Field>(
         winner: winner as u8,
         votes: tally[winner],
         candidates,
+        known,
     }
 }

@@ -8,6 +8,9 @@ mod advance;
 mod ballot;
 mod course;
 mod ledger;
+mod outcome;
+mod room;
+mod shifts;
 mod turns;
 mod voter;
 

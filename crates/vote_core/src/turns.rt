@@ -7,26 +7,17 @@ ghost use Rattle.order_theory.specs.Codes.{marked, IsBound};
 ghost use Rattle.order_theory.specs.Course.{IsErrorOf};
 ghost use Rattle.vote_core.specs.Advance.{IsAdvanced};
 ghost use Rattle.vote_core.specs.Ledgers.{ledger_of};
-ghost use Rattle.vote_core.specs.Turns.{IsRoom, IsTurn, Recovers};
+ghost use Rattle.vote_core.specs.Rooms.{IsRoom};
+ghost use Rattle.vote_core.specs.Shifts.{HasShifts};
+ghost use Rattle.vote_core.specs.Turns.{IsTurn, Recovers};
 
 use crate::advance::settle_below;
 use crate::ballot::elect;
-use crate::course::take_on;
 use crate::ledger::VoteLine;
+use crate::outcome::conclude;
+use crate::room::Room;
 use eval_basis::EvalBasis;
 use gf_field::Field;
-use vote_matrix::Growing;
-
-/// What the vote works in.
-#[derive(Drop)]
-pub struct Room {
-    /// The matrix of the working list, as far as it is known.
-    pub matrix: Growing,
-    /// The products of the working list and one vector.
-    pub row: Vec<u8>,
-    /// For each value how many candidates voted for it.
-    pub tally: Vec<u32>,
-}
 
 /// Votes on member k: the working list takes on the syndrome that wins.
 fn turn<F: Field>(f: &F, basis: &EvalBasis, k: u32, work: &mut [u8], room: &mut Room) -> VoteLine
@@ -35,30 +26,41 @@ fn turn<F: Field>(f: &F, basis: &EvalBasis, k: u32, work: &mut [u8], room: &mut 
     requires word { IsWord basis.now.bits basis.now.n work.old }
     requires member { k < basis.now.n }
     requires room { IsRoom basis.now room.old }
-    requires so_far { IsAdvanced basis.now work.old room.old.matrix (rank_of basis.now k) 0 }
+    requires shifts { HasShifts basis.now room.old.board.shifts }
+    requires so_far { IsAdvanced basis.now work.old room.old.board.matrix (rank_of basis.now k) 0 }
     ensures turn { IsTurn basis.now work.old k work.new result }
     ensures word { IsWord basis.now.bits basis.now.n work.new }
     ensures room { IsRoom basis.now room.new }
-    ensures settled { IsAdvanced basis.now work.new room.new.matrix (rank_of basis.now k) basis.now.n }
+    ensures shifts { HasShifts basis.now room.new.board.shifts }
+    ensures settled { IsAdvanced basis.now work.new room.new.board.matrix (rank_of basis.now k + 1) 0 }
 {
     settle_below(
         f,
         basis,
         work,
         basis.rank_at(k),
-        &mut room.row,
-        &mut room.matrix,
+        &mut room.board,
+        &mut room.scratch.row,
     );
     let vote = elect(
         f,
         basis,
         work,
         k,
-        &mut room.row,
-        &room.matrix,
+        &room.board,
+        &mut room.scratch,
         &mut room.tally,
     );
-    take_on(f, basis, k, vote.winner, work);
+    conclude(
+        f,
+        basis,
+        k,
+        vote.winner,
+        vote.known,
+        work,
+        &room.scratch,
+        &mut room.board.matrix,
+    );
     VoteLine {
         label: basis.label(k),
         pairs: basis.pairs(k),
@@ -82,7 +84,8 @@ pub fn vote_on_all<F: Field>(
     requires word { IsWord basis.now.bits basis.now.n work.old }
     requires room { IsRoom basis.now room.old }
     requires lines { length lines.old ≡ basis.now.n }
-    requires empty { (s : ℕ) → IsAdvanced basis.now work.old room.old.matrix s 0 }
+    requires shifts { HasShifts basis.now room.old.board.shifts }
+    requires empty { (s : ℕ) → IsAdvanced basis.now work.old room.old.board.matrix s 0 }
     ensures word { IsWord basis.now.bits basis.now.n work.new }
     ensures kept { (m : ℕ) → m < basis.now.n → marked marks.now m ≡ true → syndrome_of (times basis.now) basis.now work.new m ≡ syndrome_of (times basis.now) basis.now work.old m }
     ensures found { Recovers basis.now marks.now work.old work.new (take result lines.new) }

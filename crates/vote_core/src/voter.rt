@@ -4,12 +4,15 @@ ghost use Rattle.std.specs.Prelude.{ℕ, ◌≡◌, ◌+◌, ◌*◌, ◌<◌, �
 ghost use Rattle.order_theory.specs.Basis.{times, IsWord, IsSoundBasis};
 ghost use Rattle.order_theory.specs.Codes.{marked, low_bits, IsBound};
 ghost use Rattle.order_theory.specs.Course.{IsErrorOf};
-ghost use Rattle.vote_core.specs.Turns.{IsRoom};
+ghost use Rattle.vote_core.specs.Rooms.{IsRoom};
 ghost use Rattle.vote_core.specs.Ledgers.{ledger_of};
+ghost use Rattle.vote_core.specs.Shifts.{IsShiftRoom};
 
 use crate::course::{is_undamaged, weight_of};
 use crate::ledger::VoteLine;
-use crate::turns::{Room, vote_on_all};
+use crate::room::{Board, Room, Scratch};
+use crate::shifts::{Shift, Shifts};
+use crate::turns::vote_on_all;
 use eval_basis::{Checked, EvalBasis};
 use gf_field::Field;
 use std::alloc::{AllocError, Global};
@@ -21,6 +24,38 @@ use vote_matrix::Growing;
 pub enum Found {
     Error,
     Far,
+}
+
+/// Room for the products with one member.
+fn new_shift(alloc: Global, n: usize) -> Result<Shift, AllocError>
+    ensures { IfOk result (λ shift. IsShiftRoom n shift) }
+{
+    Ok(Shift {
+        next: vec![in alloc; 0; n]?,
+        back: vec![in alloc; 0; n]?,
+    })
+}
+
+/// The room for a vote over this basis.
+fn new_room(alloc: Global, basis: &EvalBasis) -> Result<Room, AllocError>
+    ensures { IfOk result (λ room. IsRoom basis.now room) }
+{
+    let n = basis.n() as usize;
+    Ok(Room {
+        board: Board {
+            matrix: Growing::new(alloc, basis.bits(), basis.modulus(), basis.n())?,
+            shifts: Shifts {
+                first: new_shift(alloc, n)?,
+                second: new_shift(alloc, n)?,
+            },
+        },
+        scratch: Scratch {
+            row: vec![in alloc; 0; n]?,
+            here: vec![in alloc; 0; n]?,
+            votes: vec![in alloc; 0; n]?,
+        },
+        tally: vec![in alloc; 0; 1usize << basis.bits()]?,
+    })
 }
 
 /// The low bits of each byte.
@@ -87,7 +122,8 @@ fn find_error<F: Field>(
         list.fill(0);
         return Some(write_unanimous(basis, marks, lines));
     }
-    room.matrix.clear();
+    room.board.matrix.clear();
+    room.board.shifts.fill(f, basis);
     let told = vote_on_all(f, basis, marks, list, room, lines);
     if weight_of(list) > t as usize {
         return None;
@@ -155,11 +191,7 @@ impl Voter {
             n,
             marks,
             t,
-            room: Room {
-                matrix: Growing::new(alloc, basis.bits(), basis.modulus(), n)?,
-                row: vec![in alloc; 0; size]?,
-                tally: vec![in alloc; 0; 1usize << basis.bits()]?,
-            },
+            room: new_room(alloc, basis)?,
             lines: vec![in alloc; none; size]?,
             told: 0,
         })

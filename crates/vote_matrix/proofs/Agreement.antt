@@ -44,14 +44,11 @@ module _ (v : Matrix) (S : ℕ → ℕ → ℕ) (sound : IsSound v) (agree : (p 
         λ k. record { row = b ∙ k.0 ∙ sym a; column = c ∙ k.1 ∙ sym a },
       )
 
-  -- a value that keeps the rank keeps S's
-  pub kept_agrees : (i j x : ℕ) → i < v.n → j < v.n → MaySettle v i j → KeepsRank v i j x
-      → rank (2 ^ v.bits) (gf_mul v.bits v.modulus) (suc j) (put_entry S i j x) (suc i) ≡ rank_of i j
-  kept_agrees i j x li lj m keeps =
-      let a : part_rank v i j ≡ rank_of i j = part_agrees i j (omega arith) (omega arith) (λ p q lp lq. m.others p q (omega arith) (omega arith) (λ e f. omega arith)) in
-      let same : rank (2 ^ v.bits) (gf_mul v.bits v.modulus) (suc j) (put_entry (cell v.n v.entries) i j x) (suc i) ≡ rank (2 ^ v.bits) (gf_mul v.bits v.modulus) (suc j) (put_entry S i j x) (suc i) =
-      rank_rows (2 ^ v.bits) (gf_mul v.bits v.modulus) field (suc j) (put_entry (cell v.n v.entries) i j x) (put_entry S i j x) (suc i) (λ p lp q lq. put_agrees p q lp lq (cases_eq p i) (cases_eq q j)) in
-      sym same ∙ keeps.rank_is ∙ a
+  -- with one value at (i, j), the parts up to row i and column j have one rank
+  put_same : (i j x : ℕ) → i < v.n → j < v.n → MaySettle v i j
+      → rank (2 ^ v.bits) (gf_mul v.bits v.modulus) (suc j) (put_entry (cell v.n v.entries) i j x) (suc i) ≡ rank (2 ^ v.bits) (gf_mul v.bits v.modulus) (suc j) (put_entry S i j x) (suc i)
+  put_same i j x li lj m =
+      rank_rows (2 ^ v.bits) (gf_mul v.bits v.modulus) field (suc j) (put_entry (cell v.n v.entries) i j x) (put_entry S i j x) (suc i) (λ p lp q lq. put_agrees p q lp lq (cases_eq p i) (cases_eq q j))
     where
       off : (p q : ℕ) → p < suc i → q < suc j → (p ≡ i → q ≡ j → ⊥) → put_entry (cell v.n v.entries) i j x p q ≡ put_entry S i j x p q
       off p q lp lq d = put_entry_off (cell v.n v.entries) i j x p q d ∙ agree p q (omega arith) (omega arith) (m.others p q (omega arith) (omega arith) d) ∙ sym (put_entry_off S i j x p q d)
@@ -60,6 +57,29 @@ module _ (v : Matrix) (S : ℕ → ℕ → ℕ) (sound : IsSound v) (agree : (p 
       put_agrees p q lp lq (inr d) w = off p q lp lq (λ e f. d e)
       put_agrees p q lp lq (inl e) (inr d) = off p q lp lq (λ f g. d g)
       put_agrees p q lp lq (inl e) (inl f) = ap (λ r. put_entry (cell v.n v.entries) i j x r q) e ∙ ap (λ r. put_entry (cell v.n v.entries) i j x i r) f ∙ put_entry_at (cell v.n v.entries) i j x ∙ sym (put_entry_at S i j x) ∙ sym (ap (λ r. put_entry S i j x i r) f) ∙ sym (ap (λ r. put_entry S i j x r q) e)
+
+  -- a value that keeps the rank keeps S's
+  pub kept_agrees : (i j x : ℕ) → i < v.n → j < v.n → MaySettle v i j → KeepsRank v i j x
+      → rank (2 ^ v.bits) (gf_mul v.bits v.modulus) (suc j) (put_entry S i j x) (suc i) ≡ rank_of i j
+  kept_agrees i j x li lj m keeps =
+      let a : part_rank v i j ≡ rank_of i j = part_agrees i j (omega arith) (omega arith) (λ p q lp lq. m.others p q (omega arith) (omega arith) (λ e f. omega arith)) in
+      sym (put_same i j x li lj m) ∙ keeps.rank_is ∙ a
+
+  -- where S keeps the rank, its entry does
+  pub right_keeps : (i j x : ℕ) → i < v.n → j < v.n → MaySettle v i j → x ≡ S i j → rank_of (suc i) (suc j) ≡ rank_of i j → KeepsRank v i j x
+  right_keeps i j x li lj m is r =
+      let a : part_rank v i j ≡ rank_of i j = part_agrees i j (omega arith) (omega arith) (λ p q lp lq. m.others p q (omega arith) (omega arith) (λ e f. omega arith)) in
+      record {
+        rank_is =
+            put_same i j x li lj m
+            ∙ rank_rows (2 ^ v.bits) (gf_mul v.bits v.modulus) field (suc j) (put_entry S i j x) S (suc i) (λ p lp q lq. own p q (cases_eq p i) (cases_eq q j))
+            ∙ r ∙ sym a;
+      }
+    where
+      own : (p q : ℕ) → (p ≡ i) ⊎ (p ≢ i) → (q ≡ j) ⊎ (q ≢ j) → put_entry S i j x p q ≡ S p q
+      own p q (inr d) w = put_entry_off S i j x p q (λ e f. d e)
+      own p q (inl e) (inr d) = put_entry_off S i j x p q (λ f g. d g)
+      own p q (inl e) (inl f) = ap (λ r. put_entry S i j x r q) e ∙ ap (λ r. put_entry S i j x i r) f ∙ put_entry_at S i j x ∙ is ∙ sym (ap (λ r. S i r) f) ∙ sym (ap (λ r. S r q) e)
 
   -- at a candidate the residue is S's entry exactly where the candidate is right
   pub residue_agrees : ((i j : ℕ) → S i j < 2 ^ v.bits) → (i j x : ℕ) → i < v.n → j < v.n → MaySettle v i j → IsCandidate v i j → x < 2 ^ v.bits → KeepsRank v i j x → (rank_of (suc i) (suc j) ≡ rank_of i j) ↔ (S i j ≡ x)

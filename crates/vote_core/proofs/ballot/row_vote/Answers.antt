@@ -3,52 +3,54 @@ use Rattle.std.proofs.lemmas.Bool.{both_ways}
 use Rattle.gf_theory.specs.Field.{gf_mul}
 use Rattle.vote_core.proofs.RowVoting.{column_inside, pair_next, no_pair, no_candidate, vote_is, lead_fits, known_below}
 use Rattle.vote_core.proofs.ballot.row_vote.Goals as goal
-use Rattle.vote_core.proofs.ballot.row_vote.Goals.{then-j-n-via-then-j-n, then-j-n-via-else-j-n+then-sum_at-rank_at, then-j-n-via-else-j-n+else-sum_at-rank_at+then-not-candidate}
+use Rattle.vote_core.proofs.ballot.row_vote.Goals.{then-j-n-via-then-j-n, then-j-n-via-else-j-n+then-sum_at-sum}
 
 pub candidate-requires-clause-next : goal.candidate-requires-clause-next
 candidate-requires-clause-next g c =
     let low : c.reach-j.result < c.args.basis.now.n =
-    column_inside c.args.basis.now c.args.work.now c.args.matrix.now c.args.k c.n.ensures.sound c.requires.member c.requires.settled c.args.i c.reach-j.result c.requires.row c.reach-j.ensures.reach (λ e. c.if-j-n.false (e ∙ sym c.n.ensures.value)) in
-    pair_next c.args.basis.now c.args.work.now c.args.matrix.now c.args.k c.n.ensures.sound c.requires.member c.requires.settled c.args.i c.reach-j.result c.requires.row low (sym c.sum_at.ensures.value ∙ c.if-sum_at-rank_at.false ∙ c.rank_at.ensures.value)
+    column_inside c.args.basis.now c.args.work.now c.args.board.now.matrix c.args.k c.n.ensures.sound c.requires.member c.requires.settled c.args.i c.reach-j.result c.requires.row c.reach-j.ensures.reach (λ e. c.if-j-n.false (e ∙ sym c.n.ensures.value)) in
+    pair_next c.args.basis.now c.args.work.now c.args.board.now.matrix c.args.k c.n.ensures.sound c.requires.member c.requires.settled c.args.i c.reach-j.result c.requires.row low (sym c.sum_at.ensures.value ∙ c.if-sum_at-sum.false ∙ c.rank_at-sum.ensures.value)
 
-pub returns-then-j-n : goal.returns-then-j-n
-returns-then-j-n g c = elim c.then-j-n.branch [
+pub returns-then-j-n-clause-vote : goal.returns-then-j-n-clause-vote
+returns-then-j-n-clause-vote g c = elim c.then-j-n.branch [
   | then-j-n-via-then-j-n w ↦
-      no_pair c.args.basis.now c.args.work.now c.args.matrix.now c.args.k c.n.ensures.sound c.requires.member c.requires.settled c.args.i c.reach-j.result c.requires.row c.reach-j.ensures.reach (inl (w.if-j-n.true ∙ c.n.ensures.value))
-  | then-j-n-via-else-j-n+then-sum_at-rank_at w ↦
-      no_pair c.args.basis.now c.args.work.now c.args.matrix.now c.args.k c.n.ensures.sound c.requires.member c.requires.settled c.args.i c.reach-j.result c.requires.row c.reach-j.ensures.reach
-      (inr (λ e. w.if-sum_at-rank_at.true (w.sum_at.ensures.value ∙ e ∙ sym w.rank_at.ensures.value)))
-  | then-j-n-via-else-j-n+else-sum_at-rank_at+then-not-candidate w ↦
-      let low : c.reach-j.result < c.args.basis.now.n =
-      column_inside c.args.basis.now c.args.work.now c.args.matrix.now c.args.k c.n.ensures.sound c.requires.member c.requires.settled c.args.i c.reach-j.result c.requires.row c.reach-j.ensures.reach (λ e. w.if-j-n.false (e ∙ sym c.n.ensures.value)) in
-      no_candidate c.args.basis.now c.args.work.now c.args.matrix.now c.args.k c.n.ensures.sound c.requires.member c.requires.settled c.args.i c.reach-j.result c.requires.row low c.reach-j.ensures.reach
-      (sym w.sum_at.ensures.value ∙ w.if-sum_at-rank_at.false ∙ w.rank_at.ensures.value) (λ p. both_ways w.candidate.result w.if-not-candidate.true (w.candidate.ensures.1 p))
+      no_pair c.args.basis.now c.args.work.now c.args.board.now.matrix c.args.k c.n.ensures.sound c.requires.member c.requires.settled c.args.i c.reach-j.result c.requires.row c.reach-j.ensures.reach (inl (w.if-j-n.true ∙ c.n.ensures.value))
+  | then-j-n-via-else-j-n+then-sum_at-sum w ↦
+      no_pair c.args.basis.now c.args.work.now c.args.board.now.matrix c.args.k c.n.ensures.sound c.requires.member c.requires.settled c.args.i c.reach-j.result c.requires.row c.reach-j.ensures.reach
+      (inr (λ e. w.if-sum_at-sum.true (w.sum_at.ensures.value ∙ e ∙ sym c.rank_at-sum.ensures.value)))
 ]
+
+pub returns-then-not-candidate-clause-vote : goal.returns-then-not-candidate-clause-vote
+returns-then-not-candidate-clause-vote g c =
+    let low : c.reach-j.result < c.args.basis.now.n =
+    column_inside c.args.basis.now c.args.work.now c.args.board.now.matrix c.args.k c.n.ensures.sound c.requires.member c.requires.settled c.args.i c.reach-j.result c.requires.row c.reach-j.ensures.reach (λ e. c.if-j-n.false (e ∙ sym c.n.ensures.value)) in
+    no_candidate c.args.basis.now c.args.work.now c.args.board.now.matrix c.args.k c.n.ensures.sound c.requires.member c.requires.settled c.args.i c.reach-j.result c.requires.row low c.reach-j.ensures.reach
+    (sym c.sum_at.ensures.value ∙ c.if-sum_at-sum.false ∙ c.rank_at-sum.ensures.value) (λ p. both_ways c.candidate.result c.if-not-candidate.true (c.candidate.ensures.1 p))
 
 pub residue-kept-requires-clause-next : goal.residue-kept-requires-clause-next
 residue-kept-requires-clause-next g c =
     let low : c.reach-j.result < c.args.basis.now.n =
-    column_inside c.args.basis.now c.args.work.now c.args.matrix.now c.args.k c.n.ensures.sound c.requires.member c.requires.settled c.args.i c.reach-j.result c.requires.row c.reach-j.ensures.reach (λ e. c.if-j-n.false (e ∙ sym c.n.ensures.value)) in
-    pair_next c.args.basis.now c.args.work.now c.args.matrix.now c.args.k c.n.ensures.sound c.requires.member c.requires.settled c.args.i c.reach-j.result c.requires.row low (sym c.sum_at.ensures.value ∙ c.if-sum_at-rank_at.false ∙ c.rank_at.ensures.value)
+    column_inside c.args.basis.now c.args.work.now c.args.board.now.matrix c.args.k c.n.ensures.sound c.requires.member c.requires.settled c.args.i c.reach-j.result c.requires.row c.reach-j.ensures.reach (λ e. c.if-j-n.false (e ∙ sym c.n.ensures.value)) in
+    pair_next c.args.basis.now c.args.work.now c.args.board.now.matrix c.args.k c.n.ensures.sound c.requires.member c.requires.settled c.args.i c.reach-j.result c.requires.row low (sym c.sum_at.ensures.value ∙ c.if-sum_at-sum.false ∙ c.rank_at-sum.ensures.value)
 
 pub inv-inverse-requires-clause-nonzero : goal.inv-inverse-requires-clause-nonzero
 inv-inverse-requires-clause-nonzero g c =
     let low : c.reach-j.result < c.args.basis.now.n =
-    column_inside c.args.basis.now c.args.work.now c.args.matrix.now c.args.k c.n.ensures.sound c.requires.member c.requires.settled c.args.i c.reach-j.result c.requires.row c.reach-j.ensures.reach (λ e. c.if-j-n.false (e ∙ sym c.n.ensures.value)) in
-    let x = lead_fits c.args.basis.now c.args.i c.reach-j.result c.args.k c.n.ensures.sound c.requires.row low c.requires.member (sym c.sum_at.ensures.value ∙ c.if-sum_at-rank_at.false ∙ c.rank_at.ensures.value) in
+    column_inside c.args.basis.now c.args.work.now c.args.board.now.matrix c.args.k c.n.ensures.sound c.requires.member c.requires.settled c.args.i c.reach-j.result c.requires.row c.reach-j.ensures.reach (λ e. c.if-j-n.false (e ∙ sym c.n.ensures.value)) in
+    let x = lead_fits c.args.basis.now c.args.i c.reach-j.result c.args.k c.n.ensures.sound c.requires.row low c.requires.member (sym c.sum_at.ensures.value ∙ c.if-sum_at-sum.false ∙ c.rank_at-sum.ensures.value) in
     subst (λ (y : ℕ). 0 < y) (sym c.lead.ensures.value) x.1
 
 pub add-requires-2-clause-right : goal.add-requires-2-clause-right
 add-requires-2-clause-right g c = known_below c.args.basis.now c.args.work.now c.args.k c.args.known (g.F.Field.bits_of c.args.f.now) c.n.ensures.sound c.requires.known c.requires.bits
 
-pub returns : goal.returns
-returns g c =
+pub returns-clause-vote : goal.returns-clause-vote
+returns-clause-vote g c =
     let low : c.reach-j.result < c.args.basis.now.n =
-    column_inside c.args.basis.now c.args.work.now c.args.matrix.now c.args.k c.n.ensures.sound c.requires.member c.requires.settled c.args.i c.reach-j.result c.requires.row c.reach-j.ensures.reach (λ e. c.if-j-n.false (e ∙ sym c.n.ensures.value)) in
-    vote_is c.args.basis.now c.args.work.now c.args.matrix.now c.args.k c.n.ensures.sound c.requires.member c.requires.settled c.args.i c.reach-j.result
-    (g.F.Field.bits_of c.args.f.now) (g.F.Field.modulus_of c.args.f.now) c.residue-kept.result c.entry_by-here.result c.inv-inverse.result c.args.known c.add-2.result
-    c.requires.row low (sym c.sum_at.ensures.value ∙ c.if-sum_at-rank_at.false ∙ c.rank_at.ensures.value) (c.candidate.ensures.0 c.if-not-candidate.false) c.requires.bits c.requires.modulus
-    c.residue-kept.ensures.symbol c.residue-kept.ensures.keeps c.entry_by-here.ensures.value c.inv-inverse.ensures.result_element
+    column_inside c.args.basis.now c.args.work.now c.args.board.now.matrix c.args.k c.n.ensures.sound c.requires.member c.requires.settled c.args.i c.reach-j.result c.requires.row c.reach-j.ensures.reach (λ e. c.if-j-n.false (e ∙ sym c.n.ensures.value)) in
+    vote_is c.args.basis.now c.args.work.now c.args.board.now.matrix c.args.k c.n.ensures.sound c.requires.member c.requires.settled c.args.i c.reach-j.result
+    (g.F.Field.bits_of c.args.f.now) (g.F.Field.modulus_of c.args.f.now) c.residue-kept.result c.entry_here-entry.result c.inv-inverse.result c.args.known c.add-2.result
+    c.requires.row low (sym c.sum_at.ensures.value ∙ c.if-sum_at-sum.false ∙ c.rank_at-sum.ensures.value) (c.candidate.ensures.0 c.if-not-candidate.false) c.requires.bits c.requires.modulus
+    c.residue-kept.ensures.symbol c.residue-kept.ensures.keeps c.entry_here-entry.ensures.value c.inv-inverse.ensures.result_element
     (ap (λ (y : ℕ). gf_mul (g.F.Field.bits_of c.args.f.now) (g.F.Field.modulus_of c.args.f.now) y c.inv-inverse.result) (sym c.lead.ensures.value) ∙ c.inv-inverse.ensures.inverse)
     c.requires.known
     (c.add-2.ensures.sum ∙ ap (λ (y : ℕ). bit_xor y c.args.known) (c.mul.ensures.product ∙ ap (λ (y : ℕ). gf_mul (g.F.Field.bits_of c.args.f.now) (g.F.Field.modulus_of c.args.f.now) c.inv-inverse.result y) c.add.ensures.sum))

@@ -1,7 +1,5 @@
 use Rattle.std.proofs.Common.{ℕ, subst, arith}
 use Rattle.vote_core.specs.Advance.{IsAdvanced}
-use Rattle.vote_core.proofs.Courses.{moved_same}
-use Rattle.vote_core.proofs.Settled.{advanced_moved}
 use Rattle.vote_core.proofs.Tallies.{votes-le}
 use Rattle.vote_core.proofs.turns.turn.Goals as goal
 
@@ -15,15 +13,13 @@ returns-clause-turn g c =
     record {
       winner = c.elect-vote.result.winner;
       elected = c.elect-vote.ensures.elected;
-      moved = c.take_on.ensures.moved;
+      moved = c.conclude.ensures.moved;
       line_label = c.label.ensures.value;
       line_pairs = c.pairs.ensures.value;
       line_right = c.elect-vote.ensures.votes;
       line_all = omega (arith, few, c.elect-vote.ensures.candidates);
     }
 
-pub returns-clause-settled : goal.returns-clause-settled
-returns-clause-settled g c =
-    advanced_moved c.args.basis.now c.args.work.now c.take_on.new.work c.settle_below.new.matrix c.args.k c.args.basis.now.n c.rank_at.ensures.sound c.requires.word c.take_on.ensures.word c.requires.member
-    (moved_same c.args.basis.now c.args.work.now c.take_on.new.work c.args.k c.elect-vote.result.winner c.rank_at.ensures.sound c.requires.member c.elect-vote.ensures.elected.symbol c.take_on.ensures.moved)
-    (subst (λ (s : ℕ). IsAdvanced c.args.basis.now c.args.work.now c.settle_below.new.matrix s c.args.basis.now.n) c.rank_at.ensures.value c.settle_below.ensures)
+pub conclude-requires-clause-settled : goal.conclude-requires-clause-settled
+conclude-requires-clause-settled g c =
+    subst (λ (s : ℕ). IsAdvanced c.args.basis.now c.args.work.now c.settle_below.new.board.matrix s c.args.basis.now.n) c.rank_at.ensures.value c.settle_below.ensures.settled

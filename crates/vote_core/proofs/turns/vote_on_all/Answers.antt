@@ -1,6 +1,7 @@
 use Rattle.std.proofs.Common.{◌≡◌, ◌≤◌, ◌<◌, ◌∙◌, length, sym, subst, arith}
-use Rattle.vote_core.specs.declared.turns.Room.{Room}
-use Rattle.vote_core.specs.Turns.{IsRoom}
+use Rattle.vote_core.specs.declared.room.Room.{Room}
+use Rattle.vote_core.specs.Rooms.{IsRoom}
+use Rattle.vote_core.specs.Shifts.{HasShifts}
 use Rattle.vote_core.proofs.Underway.{underway_none, underway_marked, underway_turned, underway_all}
 use Rattle.vote_core.proofs.turns.vote_on_all.Goals as goal
 use Rattle.vote_core.proofs.turns.vote_on_all.Goals.{then-not-marks-k, else-not-marks-k}
@@ -8,7 +9,8 @@ use Rattle.vote_core.proofs.turns.vote_on_all.Goals.{then-not-marks-k, else-not-
 pub loop-k-init : goal.loop-k-init
 loop-k-init g c = record {
   room = c.requires.room;
-  so_far = underway_none c.args.basis.now c.args.marks.now c.args.work.now c.args.room.now.matrix c.args.lines.now c.requires.word c.requires.empty;
+  shifts = c.requires.shifts;
+  so_far = underway_none c.args.basis.now c.args.marks.now c.args.work.now c.args.room.now.board.matrix c.args.lines.now c.requires.word c.requires.empty;
 }
 
 pub turn-requires-clause-so_far : goal.turn-requires-clause-so_far
@@ -22,17 +24,19 @@ loop-k-preserved g c =
       | then-not-marks-k w ↦
           record {
             room = subst (λ (r : Room). IsRoom c.args.basis.now r) (sym w.room-is) w.turn.ensures.room;
+            shifts = subst (λ (r : Room). HasShifts c.args.basis.now r.board.shifts) (sym w.room-is) w.turn.ensures.shifts;
             so_far =
                 rw (w.work-is, w.room-is, w.lines-is, w.told-is)
-                (underway_turned c.args.basis.now c.args.marks.now c.args.work.now c.loop-k.work c.loop-k.room.matrix c.loop-k.lines c.loop-k.told c.loop-k.k c.n-k-end.ensures.sound c.requires.word c.loop-k.invariant.so_far
-                w.turn.new.work w.turn.new.room.matrix w.turn.result low long w.if-not-marks-k.true w.turn.ensures.turn w.turn.ensures.word w.turn.ensures.settled);
+                (underway_turned c.args.basis.now c.args.marks.now c.args.work.now c.loop-k.work c.loop-k.room.board.matrix c.loop-k.lines c.loop-k.told c.loop-k.k c.n-k-end.ensures.sound c.requires.word c.loop-k.invariant.so_far
+                w.turn.new.work w.turn.new.room.board.matrix w.turn.result low long w.if-not-marks-k.true w.turn.ensures.turn w.turn.ensures.word w.turn.ensures.settled);
           }
       | else-not-marks-k w ↦
           record {
             room = subst (λ (r : Room). IsRoom c.args.basis.now r) (sym w.room-is) c.loop-k.invariant.room;
+            shifts = subst (λ (r : Room). HasShifts c.args.basis.now r.board.shifts) (sym w.room-is) c.loop-k.invariant.shifts;
             so_far =
                 rw (w.work-is, w.room-is, w.lines-is, w.told-is)
-                (underway_marked c.args.basis.now c.args.marks.now c.args.work.now c.loop-k.work c.loop-k.room.matrix c.loop-k.lines c.loop-k.told c.loop-k.k c.n-k-end.ensures.sound c.requires.word c.loop-k.invariant.so_far
+                (underway_marked c.args.basis.now c.args.marks.now c.args.work.now c.loop-k.work c.loop-k.room.board.matrix c.loop-k.lines c.loop-k.told c.loop-k.k c.n-k-end.ensures.sound c.requires.word c.loop-k.invariant.so_far
                 low w.if-not-marks-k.false);
           }
     ]
@@ -44,7 +48,7 @@ returns g c =
     record {
       word = c.loop-k.invariant.so_far.word;
       kept = c.loop-k.invariant.so_far.kept;
-      found = underway_all c.args.basis.now c.args.marks.now c.args.work.now c.loop-k.work c.loop-k.room.matrix c.loop-k.lines c.loop-k.told c.loop-k.k c.n-k-end.ensures.sound c.requires.word c.loop-k.invariant.so_far end;
+      found = underway_all c.args.basis.now c.args.marks.now c.args.work.now c.loop-k.work c.loop-k.room.board.matrix c.loop-k.lines c.loop-k.told c.loop-k.k c.n-k-end.ensures.sound c.requires.word c.loop-k.invariant.so_far end;
       few = omega arith;
       room = c.loop-k.invariant.room;
     }

@@ -8,7 +8,7 @@ use Rattle.vote_core.proofs.voter.find_error.Goals as goal
 
 pub vote_on_all-told-requires-clause-empty : goal.vote_on_all-told-requires-clause-empty
 vote_on_all-told-requires-clause-empty g c =
-    λ s. advanced_none c.args.basis.now c.args.list.now c.clear.new.self s c.args.room.now.matrix.bits c.args.room.now.matrix.modulus c.args.room.now.matrix.n c.is_undamaged.ensures.sound c.requires.room.bits c.requires.room.modulus c.requires.room.n c.clear.ensures
+    λ s. advanced_none c.args.basis.now c.args.list.now c.clear.new.self s c.args.room.now.board.matrix.bits c.args.room.now.board.matrix.modulus c.args.room.now.board.matrix.n c.is_undamaged.ensures.sound c.requires.room.bits c.requires.room.modulus c.requires.room.n c.clear.ensures
 
 pub returns-then-is_undamaged : goal.returns-then-is_undamaged
 returns-then-is_undamaged g c =

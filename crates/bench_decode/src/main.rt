@@ -1,0 +1,272 @@
+//! Decodes one word of a Hermitian code again and again, after so many of its symbols were changed, and prints what the
+//! votes gave. `bench/decode/run` times it.
+#![tactic(auto)]
+
+ghost use Rattle.std.specs.Prelude.{ℕ, ◌≡◌, ◌≢◌, ◌+◌, ◌*◌, ◌<◌, ◌≤◌, length, get_or, IsTrue, IfOk, IfSome, false};
+ghost use Rattle.order_theory.specs.Codes.{marked, IsBound};
+ghost use Rattle.order_domain.specs.Domain.{ArePoints};
+ghost use Rattle.vote_core.specs.Voters.{Fits};
+
+use anyhow::{Context, Result, bail, ensure};
+use cab_curve::{CabDomain, Curve, Point, Term};
+use eval_basis::{CheckRule, Checked, EvalBasis};
+use gf_field::{Field, PolyField};
+use gf_tables::TableField;
+use order_domain::OrderDomain;
+use std::alloc::Global;
+use std::env;
+use std::env::Env;
+use std::thread::Threads;
+use vote_core::{Found, VoteLine, Voter};
+
+// The code of the curve `y^a + y = x^(a+1)` over the field of a^2 elements, at all its points.
+#[derive(Clone, Copy)]
+struct Sizes {
+    bits: u32,
+    modulus: u32,
+    a: u32,
+    // the greatest weight that is checked, and how many changes are corrected
+    weight: u32,
+    radius: u32,
+    ghost few_bits: { bits ≤ 8 },
+    ghost small: { a < 100 },
+    ghost near: { radius < 1000 },
+}
+
+impl Sizes {
+    fn read(name: &str) -> Option<Sizes> {
+        match name {
+            "small" => Some(Sizes {
+                bits: 2,
+                modulus: 7,
+                a: 2,
+                weight: 5,
+                radius: 2,
+            }),
+            "middle" => Some(Sizes {
+                bits: 4,
+                modulus: 19,
+                a: 4,
+                weight: 31,
+                radius: 10,
+            }),
+            "large" => Some(Sizes {
+                bits: 6,
+                modulus: 67,
+                a: 8,
+                weight: 255,
+                radius: 100,
+            }),
+            _ => None,
+        }
+    }
+}
+
+// Whether a point stands among those before place `j`.
+fn is_repeated(points: &[Point], j: usize) -> bool
+    requires { j < length points.now }
+    ensures { result ≡ false → (i : ℕ) (d : Point) → i < j → get_or points.now i d ≢ get_or points.now j d }
+{
+    for i in 0..j {
+        if points[i] == points[j] {
+            return true;
+        }
+    }
+    false
+}
+
+// Whether these are distinct points of the domain.
+fn are_points<F: Field, D: OrderDomain>(f: &F, domain: &D, points: &[Point]) -> bool
+    requires { F.bits_of f.now ≡ (D.domain domain.now).bits }
+    ensures { IsTrue result → ArePoints (D.domain domain.now) (F.modulus_of f.now) points.now }
+{
+    for j in 0..points.len() {
+        if is_repeated(points, j) {
+            return false;
+        }
+        if !domain.on(f, &points[j]) {
+            return false;
+        }
+    }
+    true
+}
+
+// A member that is not checked.
+fn free_member(basis: &EvalBasis, checked: &Checked) -> Option<u32>
+    requires { length checked.now ≡ basis.now.n }
+    ensures inside { IfSome result (λ k. k < basis.now.n) }
+    ensures free { IfSome result (λ k. marked checked.now k ≡ false) }
+{
+    for k in 0..basis.n() {
+        if !checked.holds(k) {
+            return Some(k);
+        }
+    }
+    None
+}
+
+// Whether each member that is not checked has more pairs than twice the radius.
+fn corrects(basis: &EvalBasis, checked: &Checked, radius: u32) -> bool
+    requires marks { length checked.now ≡ basis.now.n }
+    requires radius { radius < 1000 }
+    ensures { IsTrue result → IsBound basis.now checked.now (2 * radius + 1) }
+{
+    for k in 0..basis.n() {
+        if !checked.holds(k) {
+            if basis.pairs(k) <= 2 * radius {
+                return false;
+            }
+        }
+    }
+    true
+}
+
+// Changes so many symbols of a word, evenly spread.
+fn damage(word: &mut [u8], changes: usize)
+    ensures { length word.new ≡ length word.old }
+{
+    let n = word.len();
+    if changes == 0 || n < changes {
+        return;
+    }
+    let step = n / changes;
+    for q in 0..changes {
+        word[q * step] ^= (q % 3 + 1) as u8;
+    }
+}
+
+// Adds the dual lists of all members that are not checked: together they are a codeword.
+fn add_codeword(basis: &EvalBasis, checked: &Checked, word: &mut [u8])
+    requires marks { length checked.now ≡ basis.now.n }
+    requires room { length word.old ≡ basis.now.n }
+    ensures { length word.new ≡ basis.now.n }
+{
+    for k in 0..basis.n() {
+        if !checked.holds(k) {
+            let dual = basis.dual(k);
+            for p in 0..word.len() {
+                word[p] ^= dual[p];
+            }
+        }
+    }
+}
+
+// The sums of the right and of the wrong candidates.
+fn sums(lines: &[VoteLine]) -> (u32, u32) {
+    let mut right: u32 = 0;
+    let mut wrong: u32 = 0;
+    for line in lines {
+        right = right.wrapping_add(line.right);
+        wrong = wrong.wrapping_add(line.wrong);
+    }
+    (right, wrong)
+}
+
+// Decodes a word so often, each time to the same error; the sums of its ledger.
+fn decode<F: Field>(
+    f: &F,
+    basis: &EvalBasis,
+    voter: &mut Voter,
+    got: &[u8],
+    err: &mut [u8],
+    times: u32,
+) -> Option<(u32, u32)>
+    requires fits { Fits voter.old basis.now }
+    requires bits { F.bits_of f.now ≡ basis.now.bits }
+    requires modulus { F.modulus_of f.now ≡ basis.now.modulus }
+    requires received { length got.now ≡ basis.now.n }
+    requires room { length err.old ≡ basis.now.n }
+{
+    for _ in 0..times {
+        match voter.find(f, basis, got, err) {
+            Found::Error => {}
+            Found::Far => return None,
+        }
+    }
+    Some(sums(voter.ledger()))
+}
+
+fn number(words: &[String], place: usize) -> Result<u32> {
+    let word = words.get(place).context("a word is missing")?;
+    word.parse::<u32>()
+        .context(format_args!("reading {word:?}"))
+}
+
+// The basis of the curve at all its points.
+fn basis_of<X: Threads + Sync>(
+    rt: &X,
+    alloc: Global,
+    f: &TableField,
+    sizes: Sizes,
+) -> Result<EvalBasis>
+    requires bits { f.now.bits ≡ sizes.bits }
+    ensures bits { IfOk result (λ b. b.bits ≡ f.now.bits) }
+    ensures modulus { IfOk result (λ b. b.modulus ≡ f.now.modulus) }
+{
+    let terms = [
+        Term {
+            i: 0,
+            j: sizes.a,
+            c: 1,
+        },
+        Term { i: 0, j: 1, c: 1 },
+        Term {
+            i: sizes.a + 1,
+            j: 0,
+            c: 1,
+        },
+    ];
+    let Ok(curve) = Curve::new(alloc, f, sizes.a, sizes.a + 1, &terms) else {
+        bail!("no curve");
+    };
+    let points = curve.all_points(alloc, f)?;
+    let domain = CabDomain::new(alloc, curve, sizes.bits)?;
+    ensure!(
+        !points.is_empty() && points.len() <= 1024,
+        "{} points",
+        points.len()
+    );
+    ensure!(are_points(f, &domain, &points), "no points");
+    Ok(EvalBasis::build(rt, alloc, f, &domain, &points, 1)?)
+}
+
+// Decodes a codeword with so many changes so often.
+fn run<X: Threads + Sync>(
+    rt: &X,
+    alloc: Global,
+    sizes: Sizes,
+    changes: u32,
+    times: u32,
+) -> Result<(u32, u32)> {
+    let field = PolyField::new(sizes.bits, sizes.modulus).context("irreducible")?;
+    let f = TableField::new(alloc, &field)?;
+    let basis = basis_of(rt, alloc, &f, sizes)?;
+    let rule = CheckRule::AtMost {
+        weight: sizes.weight,
+    };
+    let checked = Checked::new(alloc, &basis, rule)?;
+    free_member(&basis, &checked).context("all are checked")?;
+    ensure!(corrects(&basis, &checked, sizes.radius), "few pairs");
+    let size = basis.n() as usize;
+    let mut got = vec![in alloc; 0; size]?;
+    let mut err = vec![in alloc; 0; size]?;
+    add_codeword(&basis, &checked, &mut got);
+    damage(&mut got, changes as usize);
+    let mut voter = Voter::new(alloc, &basis, &checked, sizes.radius)?;
+    decode(&f, &basis, &mut voter, &got, &mut err, times).context("too many changes")
+}
+
+fn main(rt: HostRuntime) -> Result<()> {
+    let alloc = rt.alloc();
+    let mut words = Vec::new(alloc);
+    for word in env::args(&rt)?.skip(1) {
+        words.push(word)?;
+    }
+    let name = words.first().context("a word is missing")?;
+    let sizes = Sizes::read(name).context("no such code")?;
+    let changes = number(&words, 1)?;
+    let times = number(&words, 2)?;
+    let (right, wrong) = run(&rt, alloc, sizes, changes, times)?;
+    println!(rt; "{name} {changes} changes: {right} right, {wrong} wrong")?;
+    Ok(())
+}
