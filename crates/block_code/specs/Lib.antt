@@ -1,0 +1,5 @@
+pub mod Compiled
+pub mod Compiling
+pub mod Benches
+pub mod Decoding
+pub mod Settling

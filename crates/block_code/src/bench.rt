@@ -1,0 +1,81 @@
+//! The memory that decoding a block uses, and its ledger.
+
+ghost use Rattle.std.specs.Prelude.{ℕ, ◌≡◌, ◌+◌, ◌<◌, ◌≤◌, ◌*◌, [], List, All, length, IfOk};
+ghost use Rattle.order_theory.specs.Basis.{IsSoundBasis};
+ghost use Rattle.vote_core.specs.Voters.{Fits};
+ghost use Rattle.block_code.specs.Benches.{is_near as is_near_of};
+ghost use Rattle.block_code.specs.Compiled.{IsMade, numbers_of};
+ghost use Rattle.block_code.specs.Decoding.{IsVerdict, ledger_after};
+
+use crate::code::Code;
+use crate::correction::find_near;
+use coded_block::Verdict;
+use gf_field::Field;
+use std::alloc::{AllocError, Global};
+use std::marker::Model;
+use vote_core::{VoteLine, Voter};
+
+/// The memory to decode one block at a time. Contracts see what it keeps of the code that it was made for, and its ledger.
+#[derive(Drop)]
+pub struct Bench {
+    voter: Voter,
+    // whether the last block was near a codeword
+    told: bool,
+}
+
+impl Model for Bench {
+    ghost use Rattle.block_code.specs.Benches.{BenchState};
+
+    ghost Value = { BenchState };
+
+    ghost use Rattle.block_code.specs.Benches.{state_of};
+
+    ghost view = { λ s. state_of s.voter s.told };
+}
+
+fn is_near(verdict: Verdict) -> bool
+    ensures { result ≡ is_near_of verdict }
+{
+    match verdict {
+        Verdict::Near { .. } => true,
+        Verdict::Beyond => false,
+    }
+}
+
+impl Bench {
+    /// A bench for a code, with an empty ledger.
+    pub fn new<F: Field>(alloc: Global, code: &Code<F>) -> Result<Bench, AllocError>
+        ensures { IfOk result (λ b. b ≡ record { numbers = numbers_of code.now; ledger = [] }) }
+    {
+        let voter = Voter::new(alloc, code.basis(), code.checked(), code.radius())?;
+        Ok(Bench { voter, told: false })
+    }
+
+    /// After Near one line for each member that is not checked, in rising order, with more right candidates than wrong
+    /// ones. Empty after Beyond and before the first block.
+    pub fn ledger(&self) -> &[VoteLine]
+        ensures { result.now ≡ self.now.ledger }
+    {
+        if self.told { self.voter.ledger() } else { &[] }
+    }
+
+    // As `Code::decode_block` says.
+    pub(crate) fn decode<F: Field>(
+        &mut self,
+        code: &Code<F>,
+        got: &[u8],
+        word: &mut [u8],
+    ) -> Verdict
+        requires fits { self.old.numbers ≡ numbers_of code.now }
+        requires received { length got.now ≡ code.now.basis.n }
+        requires positions { length word.old ≡ code.now.basis.n }
+        ensures verdict { IsVerdict code.now got.now word.new result }
+        ensures bench { self.new ≡ record self.old { ledger = ledger_after code.now got.now word.new result } }
+        ensures majority { All (λ line. line.wrong < line.right) self.new.ledger }
+        ensures made { IsMade code.now }
+    {
+        let verdict = find_near(&mut self.voter, code, got, word);
+        self.told = is_near(verdict);
+        verdict
+    }
+}

@@ -1,0 +1,95 @@
+//! From the error of a block to its near codeword.
+
+ghost use Rattle.std.specs.Prelude.{ℕ, ◌≡◌, ◌≢◌, ◌+◌, ◌<◌, ◌≤◌, true, length, List, All};
+ghost use Rattle.order_theory.specs.Basis.{IsSoundBasis};
+ghost use Rattle.order_theory.specs.Codes.{low_bits, list_sum, distance};
+ghost use Rattle.block_code.specs.Benches.{state_of};
+ghost use Rattle.block_code.specs.Compiled.{IsMade, numbers_of};
+ghost use Rattle.block_code.specs.Decoding.{IsVerdict, ledger_after};
+ghost use Rattle.block_code.specs.Settling.{IsSettled};
+
+use crate::code::Code;
+use coded_block::Verdict;
+use gf_field::Field;
+use vote_core::{Found, Voter};
+
+/// Writes the low bits of each byte.
+fn write_low_bits(bits: u32, bytes: &[u8], word: &mut [u8])
+    requires bits { bits ≤ 8 }
+    requires same { length bytes.now ≡ length word.old }
+    ensures { word.new ≡ low_bits bits bytes.now }
+{
+    let size = 1u32 << bits;
+    for p in 0..word.len() {
+        word[p] = (u32::from(bytes[p]) % size) as u8;
+    }
+}
+
+/// Adds the low bits of each byte to a list of symbols.
+fn add_low_bits(bits: u32, bytes: &[u8], word: &mut [u8])
+    requires bits { bits ≤ 8 }
+    requires same { length bytes.now ≡ length word.old }
+    ensures { word.new ≡ list_sum (low_bits bits bytes.now) word.old }
+{
+    let size = 1u32 << bits;
+    for p in 0..word.len() {
+        let low = (u32::from(bytes[p]) % size) as u8;
+        word[p] = low ^ word[p];
+    }
+}
+
+/// The number of positions at which two lists differ.
+fn count_changes(x: &[u8], y: &[u8]) -> u32
+    requires same { length x.now ≡ length y.now }
+    requires few { length x.now ≤ 1024 }
+    ensures { result ≡ distance x.now y.now }
+{
+    let mut changes = 0;
+    for p in 0..x.len() {
+        if x[p] != y[p] {
+            changes += 1;
+        }
+    }
+    changes
+}
+
+/// Makes the error of a block the word that it leads to, or, where that is too far, the low bits of the block.
+fn settle(bits: u32, radius: u32, got: &[u8], word: &mut [u8]) -> Verdict
+    requires bits { bits ≤ 8 }
+    requires same { length got.now ≡ length word.old }
+    requires few { length got.now ≤ 1024 }
+    ensures { IsSettled bits radius got.now word.old word.new result }
+{
+    add_low_bits(bits, got, word);
+    let changes = count_changes(got, word);
+    if changes <= radius {
+        return Verdict::Near { changes };
+    }
+    write_low_bits(bits, got, word);
+    Verdict::Beyond
+}
+
+/// As `Code::decode_block` says, with the voter of a bench.
+pub fn find_near<F: Field>(
+    voter: &mut Voter,
+    code: &Code<F>,
+    got: &[u8],
+    word: &mut [u8],
+) -> Verdict
+    requires fits { (state_of voter.old true).numbers ≡ numbers_of code.now }
+    requires received { length got.now ≡ code.now.basis.n }
+    requires positions { length word.old ≡ code.now.basis.n }
+    ensures verdict { IsVerdict code.now got.now word.new result }
+    ensures rest { voter.new ≡ record voter.old { ledger = voter.new.ledger } }
+    ensures ledger { result ≢ Verdict.Beyond → voter.new.ledger ≡ ledger_after code.now got.now word.new result }
+    ensures majority { All (λ line. line.wrong < line.right) voter.new.ledger }
+    ensures made { IsMade code.now }
+{
+    match voter.find(code.field(), code.basis(), got, word) {
+        Found::Error => settle(code.bits(), code.radius(), got, word),
+        Found::Far => {
+            write_low_bits(code.bits(), got, word);
+            Verdict::Beyond
+        }
+    }
+}

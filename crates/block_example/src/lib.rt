@@ -1,0 +1,10 @@
+//! The code of the curve `y^2 + y = x^3` over GF(4) with its eight points, compiled and used: its words, verdicts and
+//! ledgers are compared with those that were worked by hand.
+#![tactic(auto)]
+
+mod points;
+
+pub use points::are_points;
+
+#[cfg(test)]
+mod tests;

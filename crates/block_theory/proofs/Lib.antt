@@ -1,0 +1,9 @@
+pub mod Lists
+pub mod Kept
+pub mod Choosing
+pub mod FromBasis
+pub mod Completing
+pub mod Codewords
+pub mod Forms
+pub mod Decoding
+pub mod ExampleCodes

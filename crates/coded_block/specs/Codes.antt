@@ -1,0 +1,31 @@
+-- BenchNumbers   what a bench keeps of the code that it was made for
+-- at_depth       a code in groups of so many codewords
+-- IsCode         what coded files use of a code: it is sound in groups of every depth, and its numbers are in range
+-- verdict_of     what decoding a block finds: the number of positions at which it differs from its near, or that it has none
+use Rattle.std.specs.Prelude.{ℕ, ◌<◌, ◌≤◌, Bool, List, Option, Some, None}
+use Rattle.stored_form.specs.Form.{Form, IsSound, distance}
+use Rattle.coded_block.specs.declared.Verdict.{Verdict}
+use Rattle.coded_block.specs.declared.Verdict.TheVariants.{Near, Beyond}
+
+pub record BenchNumbers : Type 0 where
+  pub bits : ℕ
+  pub modulus : ℕ
+  pub n : ℕ
+  -- one mark for each member, and how many errors are found
+  pub marks : List Bool
+  pub radius : ℕ
+
+abbrev pub at_depth : ℕ → Form → Form
+at_depth depth F = record { n = F.n; k = F.k; bits = F.bits; depth = depth; radius = F.radius; places = F.places; word = F.word; near = F.near }
+
+pub record IsCode (F : Form) : Type 0 where
+  pub sound : (depth : ℕ) → 0 < depth → IsSound (at_depth depth F)
+  pub bits_least : 2 ≤ F.bits
+  pub n_most : F.n ≤ 1024
+
+abbrev pub verdict_by : List ℕ → Option (List ℕ) → Verdict
+verdict_by got (Some word) = Near (distance got word)
+verdict_by got None = Beyond
+
+abbrev pub verdict_of : Form → List ℕ → Verdict
+verdict_of F got = verdict_by got (F.near got)
