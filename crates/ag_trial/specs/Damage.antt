@@ -5,10 +5,18 @@
 -- damaged_words    codewords, one after the other
 -- changes_in       the sum of the numbers of changes drawn for them
 -- total_distance   at how many positions two lists of codewords differ, in all
--- DamageLaw        in a codeword exactly as many bytes are changed as were drawn, at most t
-use Rattle.std.specs.Prelude.{◌≡◌, ℕ, suc, ◌+◌, ◌-◌, ◌≤◌, nat_lt, bit_xor, List, [], ◌∷◌, length, if◌then◌else◌}
+-- text_words       the codewords of the whole groups of a text, in order
+-- IsDamage         in a codeword as many bytes are changed as were drawn, at most t
+-- DamageLaw        the theorem: damage is so
+-- IsTrialRead      a text is read as a file, with as many changes as were drawn
+-- TrialLaw         the theorem: the image of a file, damaged within the radius, is so
+use Rattle.std.specs.Prelude.{◌≡◌, ℕ, suc, ◌+◌, ◌-◌, ◌*◌, ◌^◌, ◌≤◌, nat_lt, bit_xor, List, [], ◌∷◌, length, flat_map, if◌then◌else◌}
 use Rattle.rand_pcg.specs.Lcg.{Lcg}
-use Rattle.stored_form.specs.Form.{distance}
+use Rattle.stored_form.specs.Bits.{whole_pieces}
+use Rattle.stored_form.specs.Form.{Form, IsSound, distance}
+use Rattle.stored_form.specs.Group.{gather}
+use Rattle.stored_form.specs.Frame.{IsFile, image}
+use Rattle.stored_form.specs.Reading.{File, reading, changes}
 use Rattle.ag_trial.specs.Words.{drawn, after_draw}
 
 -- a symbol is below `size`, and what is drawn to change one is from 1 to size - 1
@@ -47,3 +55,15 @@ pub record IsDamage (size t : ℕ) (word : List ℕ) (g : Lcg) : Type 0 where
 
 abbrev pub DamageLaw : Type 0
 DamageLaw = (size t : ℕ) (word : List ℕ) (g : Lcg) → 2 ≤ size → t ≤ length word → IsDamage size t word g
+
+abbrev pub text_words : (n depth : ℕ) → List ℕ → List (List ℕ)
+text_words n depth text = flat_map (gather n depth) (whole_pieces (n * depth) text)
+
+pub record IsTrialRead (F : Form) (t : ℕ) (x z : List ℕ) (g : Lcg) : Type 0 where
+  pub read_as : reading F z ≡ File x
+  pub counted : length (changes F z) ≡ changes_in (2 ^ F.bits) t (text_words F.n F.depth (image F x)) g
+
+-- z is the image of x, damaged
+abbrev pub TrialLaw : Type 0
+TrialLaw = (F : Form) (t : ℕ) (x z : List ℕ) (g : Lcg) → IsSound F → IsFile x → t ≤ F.radius → t ≤ F.n → length z ≡ length (image F x) →
+    text_words F.n F.depth z ≡ (damaged_words (2 ^ F.bits) t (text_words F.n F.depth (image F x)) g).0 → IsTrialRead F t x z g

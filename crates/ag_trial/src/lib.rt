@@ -3,12 +3,12 @@
 //! drawn, in which order, stands in specs/Words and specs/Damage. No call takes memory.
 #![tactic(auto)]
 
-ghost use Rattle.std.specs.Prelude.{ℕ, ◌≡◌, ◌≢◌, ◌+◌, ◌*◌, ◌^◌, ◌<◌, ◌≤◌, length, slice_index_or, []};
+ghost use Rattle.std.specs.Prelude.{ℕ, ◌≡◌, ◌≢◌, ◌+◌, ◌*◌, ◌%◌, ◌^◌, ◌<◌, ◌≤◌, length, slice_index_or, []};
 ghost use Rattle.stored_form.specs.Form.{distance};
 ghost use Rattle.stored_form.specs.Group.{block_at, gather};
 ghost use Rattle.ag_frame.specs.Layouts.{IsLayout, bytes_in_group};
-ghost use Rattle.ag_trial.specs.Words.{trial_of, drawn, after_draw};
-ghost use Rattle.ag_trial.specs.Damage.{damaged, damaged_words, changes_in, total_distance, DamageLaw};
+ghost use Rattle.ag_trial.specs.Words.{trial_of, drawn, after_draw, file_bytes, after_bytes};
+ghost use Rattle.ag_trial.specs.Damage.{damaged, damaged_words, changes_in, total_distance, text_words, DamageLaw, TrialLaw};
 
 use ag_frame::Layout;
 use rand_core::SeedableRng;
@@ -34,6 +34,12 @@ impl Model for Trial {
 /// contract is the theorem.
 pub fn damage_is_as_drawn()
     ensures { DamageLaw }
+{}
+
+/// The image of a file whose codewords are damaged within the radius is read as that file, with exactly as many changes as
+/// were drawn. The contract is the theorem.
+pub fn damaged_images_are_read()
+    ensures { TrialLaw }
 {}
 
 impl Trial {
@@ -64,6 +70,16 @@ impl Trial {
         ensures rest { self.new ≡ after_draw self.old }
     {
         self.draw(256) as u8
+    }
+
+    /// The next bytes of a file, as many as there is room for.
+    pub fn fill_bytes(&mut self, bytes: &mut [u8])
+        ensures bytes { bytes.new ≡ file_bytes (length bytes.old) self.old }
+        ensures rest { self.new ≡ after_bytes (length bytes.old) self.old }
+    {
+        for byte in bytes.iter_mut() {
+            *byte = self.byte();
+        }
     }
 
     // Changes up to `t` bytes of codeword `c` of the group, and answers how many.
@@ -104,12 +120,32 @@ impl Trial {
 
         // What follows from the three above: how far the words are from those before.
         ensures changes { result ≡ total_distance (gather layout.now.n layout.now.depth group.new) (gather layout.now.n layout.now.depth group.old) }
+        ensures small { result ≤ layout.now.depth * t }
         ensures near { (c : ℕ) → c < layout.now.depth
             → distance (block_at layout.now.n layout.now.depth group.new c) (block_at layout.now.n layout.now.depth group.old c) ≤ t }
     {
         let mut changes = 0;
         for c in 0..layout.depth {
             changes += self.damage_word(layout, t, c as usize, group);
+        }
+        changes
+    }
+
+    /// Changes up to `t` bytes in each codeword of a text of whole groups, group after group, and answers how many in all.
+    pub fn damage_text(&mut self, layout: &Layout, t: u32, text: &mut [u8]) -> u64
+        requires layout { IsLayout layout.now }
+        requires t { t ≤ layout.now.n }
+        requires whole { length text.old % bytes_in_group layout.now ≡ 0 }
+        ensures words { text_words layout.now.n layout.now.depth text.new
+            ≡ (damaged_words (2 ^ layout.now.bits) t (text_words layout.now.n layout.now.depth text.old) self.old).0 }
+        ensures rest { self.new ≡ (damaged_words (2 ^ layout.now.bits) t (text_words layout.now.n layout.now.depth text.old) self.old).1 }
+        ensures drawn { result ≡ changes_in (2 ^ layout.now.bits) t (text_words layout.now.n layout.now.depth text.old) self.old }
+    {
+        let size = layout.group_bytes() as usize;
+        let mut changes = 0;
+        for g in 0..text.len() / size {
+            let group = &mut text[g * size..(g + 1) * size];
+            changes += u64::from(self.damage_group(layout, t, group));
         }
         changes
     }
@@ -132,6 +168,9 @@ mod tests {
             for byte in bytes {
                 assert_eq!(rt; trial.byte(), byte);
             }
+            let mut file = [0; 6];
+            Trial::new(seed).fill_bytes(&mut file);
+            assert_eq!(rt; file, bytes);
         }
     }
 
@@ -153,5 +192,24 @@ mod tests {
         assert_eq!(rt; trial.byte(), 3);
         assert_eq!(rt; trial.damage_group(&layout, 0, &mut group), 0);
         assert_eq!(rt; group, damaged);
+    }
+
+    // The codewords of the group above, as two groups of one codeword each.
+    #[test]
+    fn damages_a_text(rt: HostRuntime) {
+        let layout = Layout {
+            n: 8,
+            k: 3,
+            bits: 8,
+            depth: 1,
+        };
+        let mut trial = Trial::new(6);
+        let mut text = [0; 16];
+        assert_eq!(rt; trial.damage_text(&layout, 8, &mut text), 12);
+        let damaged = [
+            26, 91, 0, 129, 223, 165, 152, 179, 0, 58, 5, 0, 204, 210, 0, 109,
+        ];
+        assert_eq!(rt; text, damaged);
+        assert_eq!(rt; trial.byte(), 3);
     }
 }

@@ -1,0 +1,99 @@
+//! Decoded groups, one after the other.
+
+ghost use Rattle.std.specs.Prelude.{ℕ, ◌≡◌, ◌+◌, ◌*◌, ◌<◌, ◌≤◌, ◌++◌, List, length, take, All, MatchResult, MatchOption, IfOk, None};
+ghost use Rattle.ag_frame.specs.Layouts.{symbols_in_group};
+ghost use Rattle.stored_form.specs.Form.{Form};
+ghost use Rattle.coded_block.specs.Codes.{IsCode, at_depth};
+ghost use Rattle.stream_codec.specs.Layouts.{Fits};
+ghost use Rattle.stream_codec.specs.Dealing.{IsNear, FirstLost, CountsFit, GroupDealt, GroupFault, HoldsGroups, Dealt, TextFault};
+ghost use Rattle.stream_codec.specs.Giving.{SinkView};
+ghost use Rattle.stream_codec.specs.Slots.{IsSettled, blocks_of};
+
+use crate::decode::{DecodeCounts, DecodeFault};
+use crate::report::tell_group;
+use crate::slot::Slot;
+use crate::window::Window;
+use crate::writer::FileWriter;
+use ag_io::{Failed, Sink};
+use coded_block::{BlockBench, BlockCode, Verdict};
+
+/// Deals with the first groups of a window that was decoded, one after the other.
+pub fn deal_groups<C: BlockCode, O: Sink, R: Sink>(
+    code: &C,
+    window: &Window<C::Bench>,
+    groups: usize,
+    writer: &mut FileWriter,
+    counts: &mut DecodeCounts,
+    sink: &mut O,
+    report: &mut R,
+) -> Result<(), DecodeFault>
+    requires fits { Fits window.now.layout (C.form code.now) }
+    requires holds { (w : List ℕ) × HoldsGroups (C.form code.now) window.now groups w }
+    requires size { writer.old.size ≡ symbols_in_group window.now.layout }
+    requires width { writer.old.width ≡ window.now.layout.bits }
+    requires counts { CountsFit counts.old }
+    requires groups { counts.old.groups + groups ≤ 1099511627776 }
+    ensures dealt { (z w : List ℕ) (out_first report_first : SinkView) → HoldsGroups (C.form code.now) window.now groups w → Dealt (at_depth window.now.layout.depth (C.form code.now)) O.tells out_first (record { given = O.given sink.old; faults = O.faults sink.old; sure = O.sure sink.old }) R.tells report_first (record { given = R.given report.old; faults = R.faults report.old; sure = R.sure report.old }) writer.old counts.old z → MatchResult result (λ _. Dealt (at_depth window.now.layout.depth (C.form code.now)) O.tells out_first (record { given = O.given sink.new; faults = O.faults sink.new; sure = O.sure sink.new }) R.tells report_first (record { given = R.given report.new; faults = R.faults report.new; sure = R.sure report.new }) writer.new counts.new (z ++ w)) (λ fault. (more : List ℕ) → TextFault (at_depth window.now.layout.depth (C.form code.now)) O.tells out_first (record { given = O.given sink.new; faults = O.faults sink.new; sure = O.sure sink.new }) R.tells report_first (record { given = R.given report.new; faults = R.faults report.new; sure = R.sure report.new }) (z ++ (w ++ more)) fault) }
+    ensures counts { IfOk result (λ _. CountsFit counts.new) }
+    ensures groups { IfOk result (λ _. counts.new.groups ≡ counts.old.groups + groups) }
+    ensures size { writer.new.size ≡ writer.old.size }
+    ensures width { writer.new.width ≡ writer.old.width }
+{
+    for g in 0..groups {
+        deal_group(code, window.slots_of(g), writer, counts, sink, report)?;
+    }
+    Ok(())
+}
+
+/// Writes the bytes of the group that is held, and tells the changes of a decoded group and holds it, unless one of its
+/// codewords has no near.
+fn deal_group<C: BlockCode, O: Sink, R: Sink>(
+    code: &C,
+    slots: &[Slot<C::Bench>],
+    writer: &mut FileWriter,
+    counts: &mut DecodeCounts,
+    sink: &mut O,
+    report: &mut R,
+) -> Result<(), DecodeFault>
+    requires few { length slots.now ≤ 64 }
+    requires settled { All (IsSettled (C.form code.now)) slots.now }
+    requires size { writer.old.size ≡ length slots.now * (C.form code.now).k }
+    requires width { writer.old.width ≡ (C.form code.now).bits }
+    requires counts { CountsFit counts.old }
+    requires groups { counts.old.groups < 1099511627776 }
+    ensures dealt { MatchResult result (λ _. GroupDealt (C.form code.now) O.tells (record { given = O.given sink.old; faults = O.faults sink.old; sure = O.sure sink.old }) (record { given = O.given sink.new; faults = O.faults sink.new; sure = O.sure sink.new }) R.tells (record { given = R.given report.old; faults = R.faults report.old; sure = R.sure report.old }) (record { given = R.given report.new; faults = R.faults report.new; sure = R.sure report.new }) writer.old writer.new counts.old counts.new (blocks_of slots.now)) (λ fault. GroupFault (C.form code.now) O.tells (record { given = O.given sink.old; faults = O.faults sink.old; sure = O.sure sink.old }) (record { given = O.given sink.new; faults = O.faults sink.new; sure = O.sure sink.new }) R.tells (record { given = R.given report.old; faults = R.faults report.old; sure = R.sure report.old }) (record { given = R.given report.new; faults = R.faults report.new; sure = R.sure report.new }) writer.old counts.old (blocks_of slots.now) fault) }
+    ensures counts { IfOk result (λ _. CountsFit counts.new) }
+    ensures size { writer.new.size ≡ writer.old.size }
+    ensures width { writer.new.width ≡ writer.old.width }
+{
+    let n = code.n() as usize;
+    match writer.release(sink) {
+        Ok(bytes) => counts.bytes += bytes,
+        Err(Failed) => return Err(DecodeFault::OutFault),
+    }
+    let group = counts.groups;
+    if let Some(word) = first_beyond(slots) {
+        return Err(DecodeFault::Beyond { group, word });
+    }
+    match tell_group(group, slots, n, report) {
+        Ok(changes) => counts.changes += changes,
+        Err(Failed) => return Err(DecodeFault::ReportFault),
+    }
+    writer.hold(code, slots);
+    counts.groups = group + 1;
+    Ok(())
+}
+
+/// The first codeword that has no near.
+fn first_beyond<B: BlockBench>(slots: &[Slot<B>]) -> Option<u32>
+    requires { length slots.now ≤ 64 }
+    ensures { MatchOption result ((F : Form) → All (IsSettled F) slots.now → All (IsNear F) (blocks_of slots.now)) (λ word. (F : Form) → All (IsSettled F) slots.now → FirstLost F (blocks_of slots.now) word) }
+{
+    for (c, slot) in slots.iter().enumerate() {
+        match slot.verdict() {
+            Verdict::Near { .. } => {}
+            Verdict::Beyond => return Some(c as u32),
+        }
+    }
+    None
+}

@@ -1,0 +1,14 @@
+//! One write of some bytes, as contracts of this crate see it.
+
+ghost use Rattle.std.specs.Prelude.{MatchResult};
+ghost use Rattle.stream_codec.specs.Giving.{Wrote, WroteSome};
+
+use ag_io::{Failed, Sink, put};
+
+/// Writes all of these bytes.
+pub fn give<S: Sink>(sink: &mut S, bytes: &[u8]) -> Result<(), Failed>
+    ensures { MatchResult result (λ _. Wrote S.tells (record { given = S.given sink.old; faults = S.faults sink.old; sure = S.sure sink.old }) (record { given = S.given sink.new; faults = S.faults sink.new; sure = S.sure sink.new }) bytes.now) (λ _. WroteSome S.tells (record { given = S.given sink.old; faults = S.faults sink.old; sure = S.sure sink.old }) (record { given = S.given sink.new; faults = S.faults sink.new; sure = S.sure sink.new }) bytes.now) }
+{
+    put(sink, bytes)?;
+    Ok(())
+}

@@ -1,0 +1,72 @@
+//! What is told of decoded groups.
+
+ghost use Rattle.std.specs.Prelude.{ℕ, ◌≡◌, ◌<◌, ◌≤◌, ◌^◌, ◌++◌, List, length, All, map, MatchResult};
+ghost use Rattle.ag_texts.specs.Lines.{done_line_of};
+ghost use Rattle.stream_codec.specs.Giving.{Wrote, WroteSome};
+ghost use Rattle.stream_codec.specs.Report.{place_changes, changes_from, lines_of};
+ghost use Rattle.stream_codec.specs.Slots.{blocks_of, words_of};
+
+use crate::give::give;
+use crate::slot::Slot;
+use ag_io::{Failed, Sink};
+use ag_texts::{LineBuf, changed_line, done_line};
+use coded_block::BlockBench;
+
+/// Tells the changes of a group, and answers how many they are.
+pub fn tell_group<B: BlockBench, R: Sink>(
+    group: u64,
+    slots: &[Slot<B>],
+    n: usize,
+    report: &mut R,
+) -> Result<u64, Failed>
+    requires few { length slots.now ≤ 64 }
+    requires n_few { n ≤ 1024 }
+    requires got_long { All (λ s. length s.got ≡ n) slots.now }
+    requires word_long { All (λ s. length s.word ≡ n) slots.now }
+    ensures { MatchResult result (λ count. Wrote R.tells (record { given = R.given report.old; faults = R.faults report.old; sure = R.sure report.old }) (record { given = R.given report.new; faults = R.faults report.new; sure = R.sure report.new }) (lines_of (changes_from n group 0 (blocks_of slots.now) (words_of slots.now))) × (count ≡ length (changes_from n group 0 (blocks_of slots.now) (words_of slots.now)))) (λ _. WroteSome R.tells (record { given = R.given report.old; faults = R.faults report.old; sure = R.sure report.old }) (record { given = R.given report.new; faults = R.faults report.new; sure = R.sure report.new }) (lines_of (changes_from n group 0 (blocks_of slots.now) (words_of slots.now)))) }
+{
+    let mut line = LineBuf::new();
+    let mut count: u64 = 0;
+    for (c, slot) in slots.iter().enumerate() {
+        count += tell_block(&mut line, group, c as u32, slot.got(), slot.word(), report)?;
+    }
+    Ok(count)
+}
+
+/// Tells the changes from a block to its codeword, and answers how many they are.
+fn tell_block<R: Sink>(
+    line: &mut LineBuf,
+    group: u64,
+    word: u32,
+    got: &[u8],
+    codeword: &[u8],
+    report: &mut R,
+) -> Result<u64, Failed>
+    requires few { length got.now ≤ 1024 }
+    requires same { length codeword.now ≡ length got.now }
+    ensures { MatchResult result (λ count. Wrote R.tells (record { given = R.given report.old; faults = R.faults report.old; sure = R.sure report.old }) (record { given = R.given report.new; faults = R.faults report.new; sure = R.sure report.new }) (lines_of (place_changes (length got.now) group word got.now codeword.now)) × (count ≡ length (place_changes (length got.now) group word got.now codeword.now))) (λ _. WroteSome R.tells (record { given = R.given report.old; faults = R.faults report.old; sure = R.sure report.old }) (record { given = R.given report.new; faults = R.faults report.new; sure = R.sure report.new }) (lines_of (place_changes (length got.now) group word got.now codeword.now))) }
+{
+    let mut count: u64 = 0;
+    for p in 0..got.len() {
+        if got[p] != codeword[p] {
+            changed_line(line, group, word, p as u32, got[p], codeword[p]);
+            give(report, line.bytes())?;
+            count += 1;
+        }
+    }
+    Ok(count)
+}
+
+/// Tells that a text was decoded.
+pub fn tell_done<R: Sink>(
+    bytes: u64,
+    groups: u64,
+    changes: u64,
+    report: &mut R,
+) -> Result<(), Failed>
+    ensures { MatchResult result (λ _. Wrote R.tells (record { given = R.given report.old; faults = R.faults report.old; sure = R.sure report.old }) (record { given = R.given report.new; faults = R.faults report.new; sure = R.sure report.new }) (done_line_of bytes groups changes)) (λ _. WroteSome R.tells (record { given = R.given report.old; faults = R.faults report.old; sure = R.sure report.old }) (record { given = R.given report.new; faults = R.faults report.new; sure = R.sure report.new }) (done_line_of bytes groups changes)) }
+{
+    let mut line = LineBuf::new();
+    done_line(&mut line, bytes, groups, changes);
+    give(report, line.bytes())
+}
