@@ -1,4 +1,6 @@
-pub mod CheckLemmas
 pub mod TextLemmas
-pub mod MemberLemmas
 pub mod RunLemmas
+pub mod WordLemmas
+pub mod StreamLemmas
+pub mod AnswerLemmas
+pub mod Workers

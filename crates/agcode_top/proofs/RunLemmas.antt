@@ -1,6 +1,5 @@
 -- From what a command's own function leaves to how the command ended
-use Rattle.std.proofs.Common.{◌≡◌, ◌≢◌, ℕ, List, [], ◌∷◌, length, true, false, Option, Some, None, IsTrue, sym, ap, ◌∙◌, refl, inl, inr, ◌⊎◌, subst}
-use Rattle.std.proofs.Common.{Bool, ◌==◌, arith}
+use Rattle.std.proofs.Common.{◌≡◌, ◌≢◌, ℕ, List, [], ◌∷◌, length, true, false, IsTrue, sym, ap, ◌∙◌, refl, inl, inr, subst, Bool, ◌==◌, arith, Result, Ok, Err}
 use Rattle.std.proofs.lemmas.Grind.{common_steps}
 use Rattle.std.proofs.lemmas.Bool.Decides.{nat_tests}
 use Rattle.order_domain.specs.declared.Point.{Point}
@@ -11,27 +10,171 @@ use Rattle.command_words.proofs.LineLemmas.{line-says}
 use Rattle.command_words.specs.declared.words.Command.TheVariants.{Member, Points, Params, Bound, Check, Encode, Decode, Votes, Trial}
 use Rattle.code_descriptor.specs.Meaning.{Parts, Meaning, meaning, refused, describes}
 use Rattle.code_descriptor.specs.declared.DescCause.{DescCause}
-use Rattle.code_descriptor.specs.declared.DescCause.TheVariants.{NoPoints}
+use Rattle.code_descriptor.specs.declared.DescCause.TheVariants.{TooLarge, NotToml, BadKey, BadField, BadDegrees, BadTerm, MissingLead, BadPoint, BadWeight, BadDepth, NoPoints, NothingFree}
+use Rattle.descriptor_code.specs.Codes.{IsFull}
+use Rattle.stream_codec.specs.declared.encode.EncodeCounts.{EncodeCounts}
+use Rattle.stream_codec.specs.declared.encode.EncodeFault.{EncodeFault}
+use Rattle.stream_codec.specs.declared.encode.EncodeFault.TheVariants as encoding
+use Rattle.stream_codec.specs.declared.decode.DecodeCounts.{DecodeCounts}
+use Rattle.stream_codec.specs.declared.decode.DecodeFault.{DecodeFault}
+use Rattle.stream_codec.specs.declared.decode.DecodeFault.TheVariants as decoding
 use Rattle.agcode_top.specs.declared.status.Status.{Status}
-use Rattle.agcode_top.specs.declared.status.Status.TheVariants.{Done, NotCodeword, WordLength, Usage, Descriptor, DescFault, InputFault, OutFault, NoMemory}
-use Rattle.agcode_top.specs.Flows.{Flow, Untouched, Failed, Stayed, GavePart}
-use Rattle.agcode_top.specs.Commands.{is_built, IsAsked, has_points, refusal_in, Accepts, Says, IsInputTold, IsValid, code_data}
-use Rattle.agcode_top.specs.Steps.{MemberEnded, PointsEnded}
-use Rattle.agcode_top.specs.Runs.{Ended, Completed, Answered, GaveFront, IsAnswer, IsQuiet, IsEarly}
+use Rattle.agcode_top.specs.declared.status.Status.TheVariants.{Done, NotCodeword, Beyond, Ragged, Framing, TableRefused, WordLength, Usage, Descriptor, TooLong, DescFault, InputFault, OutFault, ReportFault, NoMemory}
+use Rattle.agcode_top.specs.Flows.{Flow, Untouched}
+use Rattle.agcode_top.specs.Commands.{is_built, IsAsked, has_points, takes_no_code, IsRefused, IsRefusedPart, Says, IsInputTold}
+use Rattle.agcode_top.specs.Steps.{GaveText}
+use Rattle.agcode_top.specs.Streams.{encode_status, decode_status}
+use Rattle.agcode_top.specs.Runs.{Said, PlainDid, Wanting, Did, Carried, Over, Ended}
 
-points-accepts : (text : List ℕ) (p : Parts) → meaning text ≡ describes p → Accepts Points text p
-points-accepts text p e = record { described = e; accepted = ap (refusal_in Points) e }
+-- a text was written, or a front of it
+did-text : (command : Command) (p : Parts) (input out : Flow) (text : List ℕ) (status result : Status) → (IsInputTold command input.tells → Says command p input.before status text) →
+    ((IsInputTold command input.tells → Said command p input out status) → PlainDid command p input out status) → GaveText out text status result → PlainDid command p input out result
+did-text command p input out text status result says answers (inl h) =
+    subst (λ (s : Status). PlainDid command p input out s) (sym h.same) (answers (λ told. record { text = text; says = says told; given = h.given }))
+did-text command p input out text status result says answers (inr h) =
+    subst (λ (s : Status). PlainDid command p input out s) (sym h.stopped) (h.failed, λ told. record { status = status; text = text; says = says told; given = h.given })
 
-pub points-ended : (p : Parts) (desc input out : Flow) (result : Status) → (IsTrue desc.tells → meaning desc.before ≡ describes p) → PointsEnded p out result → Ended Points desc input out result
-points-ended p desc input out Done read h = λ told _. record { parts = p; accepted = points-accepts desc.before p (read told); said = tt; given = h }
-points-ended p desc input out NoMemory read h = h
-points-ended p desc input out OutFault read h = (h.0, λ told _. record { parts = p; accepted = points-accepts desc.before p (read told); status = Done; said = tt; given = h.1 })
-points-ended p desc input out NotCodeword read h = absurd h
-points-ended p desc input out (WordLength taken) read h = absurd h
-points-ended p desc input out Usage read h = absurd h
-points-ended p desc input out (Descriptor cause) read h = absurd h
-points-ended p desc input out DescFault read h = absurd h
-points-ended p desc input out InputFault read h = absurd h
+pub did-done : (command : Command) (p : Parts) (input out : Flow) (text : List ℕ) (result : Status) → (IsInputTold command input.tells → Says command p input.before Done text) →
+    GaveText out text Done result → PlainDid command p input out result
+did-done command p input out text result says h = did-text command p input out text Done result says (λ s. s) h
+
+pub did-other : (command : Command) (p : Parts) (input out : Flow) (text : List ℕ) (result : Status) → (IsInputTold command input.tells → Says command p input.before NotCodeword text) →
+    GaveText out text NotCodeword result → PlainDid command p input out result
+did-other command p input out text result says h = did-text command p input out text NotCodeword result says (λ s. s) h
+
+pub did-at : (command x : Command) (p : Parts) (input out report : Flow) (status : Status) → command ≡ x → Did x p input out report status → Did command p input out report status
+did-at command x p input out report status e h = subst (λ (y : Command). Did y p input out report status) (sym e) h
+
+-- the statuses that a command's own work gives
+is_own : Status → Bool
+is_own Done = true
+is_own NotCodeword = true
+is_own (Beyond group word) = true
+is_own (Ragged extra) = true
+is_own Framing = true
+is_own (TableRefused line) = true
+is_own (WordLength taken) = true
+is_own Usage = false
+is_own (Descriptor cause) = false
+is_own (TooLong taken) = true
+is_own DescFault = false
+is_own InputFault = true
+is_own OutFault = true
+is_own ReportFault = true
+is_own NoMemory = true
+
+encode_own : (answer : Result EncodeCounts EncodeFault) → is_own (encode_status answer) ≡ true
+unfolding is_own
+encode_own (Ok counts) = refl
+encode_own (Err encoding.InputFault) = refl
+encode_own (Err encoding.OutFault) = refl
+encode_own (Err (encoding.TooLong taken)) = refl
+
+decode_own : (answer : Result DecodeCounts DecodeFault) → is_own (decode_status answer) ≡ true
+unfolding is_own
+decode_own (Ok counts) = refl
+decode_own (Err decoding.InputFault) = refl
+decode_own (Err decoding.OutFault) = refl
+decode_own (Err decoding.ReportFault) = refl
+decode_own (Err (decoding.TooLong taken)) = refl
+decode_own (Err (decoding.Beyond group word)) = refl
+decode_own (Err (decoding.Ragged extra)) = refl
+decode_own (Err decoding.Framing) = refl
+
+not_own : (status other : Status) → is_own status ≡ false → status ≡ other → is_own other ≡ true → ⊥
+not_own status other f e t = let k : true ≡ false = sym t ∙ ap is_own (sym e) ∙ f in let z : ⊥ = cc in z
+
+-- no command ends so by its own work
+did-Usage : (command : Command) (p : Parts) (input out report : Flow) → Did command p input out report Usage → ⊥
+unfolding is_own
+did-Usage Member p input out report h = h.0
+did-Usage Points p input out report h = h.0
+did-Usage Params p input out report h = h.0
+did-Usage Bound p input out report h = h.0
+did-Usage Check p input out report h = h.0
+did-Usage Encode p input out report h = not_own Usage (encode_status h.0.answer) refl h.0.status_is (encode_own h.0.answer)
+did-Usage Decode p input out report h = not_own Usage (decode_status h.answer) refl h.status_is (decode_own h.answer)
+did-Usage Votes p input out report h = h.0
+did-Usage Trial p input out report h = h.0
+
+did-Descriptor : (command : Command) (cause : DescCause) (p : Parts) (input out report : Flow) → Did command p input out report (Descriptor cause) → ⊥
+unfolding is_own
+did-Descriptor Member cause p input out report h = h.0
+did-Descriptor Points cause p input out report h = h.0
+did-Descriptor Params cause p input out report h = h.0
+did-Descriptor Bound cause p input out report h = h.0
+did-Descriptor Check cause p input out report h = h.0
+did-Descriptor Encode cause p input out report h = not_own (Descriptor cause) (encode_status h.0.answer) refl h.0.status_is (encode_own h.0.answer)
+did-Descriptor Decode cause p input out report h = not_own (Descriptor cause) (decode_status h.answer) refl h.status_is (decode_own h.answer)
+did-Descriptor Votes cause p input out report h = h.0
+did-Descriptor Trial cause p input out report h = h.0
+
+did-DescFault : (command : Command) (p : Parts) (input out report : Flow) → Did command p input out report DescFault → ⊥
+unfolding is_own
+did-DescFault Member p input out report h = h.0
+did-DescFault Points p input out report h = h.0
+did-DescFault Params p input out report h = h.0
+did-DescFault Bound p input out report h = h.0
+did-DescFault Check p input out report h = h.0
+did-DescFault Encode p input out report h = not_own DescFault (encode_status h.0.answer) refl h.0.status_is (encode_own h.0.answer)
+did-DescFault Decode p input out report h = not_own DescFault (decode_status h.answer) refl h.status_is (decode_own h.answer)
+did-DescFault Votes p input out report h = h.0
+did-DescFault Trial p input out report h = h.0
+
+did-wanting : (command : Command) (p : Parts) (input out report : Flow) → Did command p input out report NoMemory → Wanting command input out report
+did-wanting Member p input out report h = h
+did-wanting Points p input out report h = h
+did-wanting Params p input out report h = h
+did-wanting Bound p input out report h = h
+did-wanting Check p input out report h = h
+did-wanting Encode p input out report h = (h.0.0, h.0.1, h.1)
+did-wanting Decode p input out report h = h
+did-wanting Votes p input out report h = h
+did-wanting Trial p input out report h = h
+
+pub carried-did : (command : Command) (p : Parts) (input out report : Flow) (status : Status) → ((cause : DescCause) → IsRefusedPart command p cause → ⊥) → Did command p input out report status →
+    Carried command p input out report status
+carried-did command p input out report Done a h = (a, h)
+carried-did command p input out report NotCodeword a h = (a, h)
+carried-did command p input out report (Beyond group word) a h = (a, h)
+carried-did command p input out report (Ragged extra) a h = (a, h)
+carried-did command p input out report Framing a h = (a, h)
+carried-did command p input out report (TableRefused line) a h = (a, h)
+carried-did command p input out report (WordLength taken) a h = (a, h)
+carried-did command p input out report Usage a h = (a, h)
+carried-did command p input out report (Descriptor cause) a h = absurd (did-Descriptor command cause p input out report h)
+carried-did command p input out report (TooLong taken) a h = (a, h)
+carried-did command p input out report DescFault a h = (a, h)
+carried-did command p input out report InputFault a h = (a, h)
+carried-did command p input out report OutFault a h = (a, h)
+carried-did command p input out report ReportFault a h = (a, h)
+carried-did command p input out report NoMemory a h = did-wanting command p input out report h
+
+-- over a descriptor that is accepted
+over : (command : Command) (p : Parts) (desc input out report : Flow) (status : Status) → (IsTrue desc.tells → meaning desc.before ≡ describes p) → ((cause : DescCause) → IsRefusedPart command p cause → ⊥) →
+    Did command p input out report status → Over command desc input out report status
+over command p desc input out report status read a h = record { parts = p; accepted = λ told. record { described = read told; accepted = a }; did = h }
+
+refused-by : (command : Command) (text : List ℕ) (p : Parts) (cause : DescCause) → meaning text ≡ describes p → IsRefusedPart command p cause → IsRefused command (meaning text) cause
+refused-by command text p cause e h = subst (λ (m : Meaning). IsRefused command m cause) (sym e) h
+
+pub ended-carried : (command : Command) (p : Parts) (desc input out report : Flow) (status : Status) → (IsTrue desc.tells → meaning desc.before ≡ describes p) → Carried command p input out report status →
+    Ended command desc input out report status
+ended-carried command p desc input out report Done read h = over command p desc input out report Done read h.0 h.1
+ended-carried command p desc input out report NotCodeword read h = over command p desc input out report NotCodeword read h.0 h.1
+ended-carried command p desc input out report (Beyond group word) read h = over command p desc input out report (Beyond group word) read h.0 h.1
+ended-carried command p desc input out report (Ragged extra) read h = over command p desc input out report (Ragged extra) read h.0 h.1
+ended-carried command p desc input out report Framing read h = over command p desc input out report Framing read h.0 h.1
+ended-carried command p desc input out report (TableRefused line) read h = over command p desc input out report (TableRefused line) read h.0 h.1
+ended-carried command p desc input out report (WordLength taken) read h = over command p desc input out report (WordLength taken) read h.0 h.1
+ended-carried command p desc input out report Usage read h = absurd (did-Usage command p input out report h.1)
+ended-carried command p desc input out report (Descriptor cause) read h = (λ told. refused-by command desc.before p cause (read told) h.0, h.1, h.2, h.3)
+ended-carried command p desc input out report (TooLong taken) read h = over command p desc input out report (TooLong taken) read h.0 h.1
+ended-carried command p desc input out report DescFault read h = absurd (did-DescFault command p input out report h.1)
+ended-carried command p desc input out report InputFault read h = over command p desc input out report InputFault read h.0 h.1
+ended-carried command p desc input out report OutFault read h = over command p desc input out report OutFault read h.0 h.1
+ended-carried command p desc input out report ReportFault read h = over command p desc input out report ReportFault read h.0 h.1
+ended-carried command p desc input out report NoMemory read h = h
 
 pub has_points-from : (ps : List Point) → length ps ≢ 0 → has_points ps ≡ true
 has_points-from [] h = absurd (h refl)
@@ -41,76 +184,44 @@ pub has_points-none : (ps : List Point) → length ps ≡ 0 → has_points ps �
 has_points-none [] h = refl
 has_points-none (p ∷ ps) h = absurd (let k : ⊥ = cc in k)
 
-member-accepts : (text : List ℕ) (p : Parts) → has_points p.points ≡ true → meaning text ≡ describes p → Accepts Member text p
-member-accepts text p h e = record { described = e; accepted = ap (refusal_in Member) e ∙ rw h refl }
+-- what refuses the parts of a descriptor
+pub takes-all : (command : Command) (p : Parts) → takes_no_code command ≡ true → (cause : DescCause) → IsRefusedPart command p cause → ⊥
+takes-all command p e TooLarge h = h
+takes-all command p e NotToml h = h
+takes-all command p e (BadKey key) h = h
+takes-all command p e BadField h = h
+takes-all command p e BadDegrees h = h
+takes-all command p e (BadTerm index) h = h
+takes-all command p e MissingLead h = h
+takes-all command p e (BadPoint index) h = h
+takes-all command p e BadWeight h = h
+takes-all command p e BadDepth h = h
+takes-all command p e NoPoints h = let k : true ≡ false = sym e ∙ h.0 in let z : ⊥ = cc in z
+takes-all command p e NothingFree h = let k : true ≡ false = sym e ∙ h.0 in let z : ⊥ = cc in z
 
-pub member-ended : (p : Parts) (desc input out : Flow) (result : Status) → (IsTrue desc.tells → meaning desc.before ≡ describes p) → has_points p.points ≡ true →
-    MemberEnded p input out result → Ended Member desc input out result
-member-ended p desc input out Done read some h = λ told it. let s : _ = h it in record { parts = p; accepted = member-accepts desc.before p some (read told); said = s.said; given = s.given }
-member-ended p desc input out NotCodeword read some h = λ told it. let s : _ = h it in record { parts = p; accepted = member-accepts desc.before p some (read told); said = s.said; given = s.given }
-member-ended p desc input out (WordLength taken) read some h =
-    (λ told it. let s : _ = h.0 it in record { parts = p; accepted = member-accepts desc.before p some (read told); said = s.said; given = s.given }, h.1)
-member-ended p desc input out InputFault read some h = h
-member-ended p desc input out NoMemory read some h = h
-member-ended p desc input out OutFault read some h =
-    (h.0, λ told it. let s : _ = h.1 it in record { parts = p; accepted = member-accepts desc.before p some (read told); status = s.status; said = s.said; given = s.given })
-member-ended p desc input out Usage read some h = absurd h
-member-ended p desc input out (Descriptor cause) read some h = absurd h
-member-ended p desc input out DescFault read some h = absurd h
-
--- no points, where a command wants some
-pub no_points : (p : Parts) (desc input out : Flow) → (IsTrue desc.tells → meaning desc.before ≡ describes p) → length p.points ≡ 0 → Untouched input → Untouched out →
-    Ended Member desc input out (Descriptor NoPoints)
-no_points p desc input out read none i o = (λ told. ap (refusal_in Member) (read told) ∙ rw (has_points-none p.points none) refl, i, o)
-
-refused-cause : (command : Command) (text : List ℕ) (p : Parts) (cause : DescCause) → Accepts command text p → refusal_in command (meaning text) ≡ Some cause → ⊥
-refused-cause command text p cause a e = let k : None ≡ Some cause = sym a.accepted ∙ e in let z : ⊥ = cc in z
-
-same-parts : (command : Command) (text : List ℕ) (p q : Parts) → Accepts command text p → Accepts command text q → p ≡ q
-same-parts command text p q a b = let k : describes p ≡ describes q = sym a.described ∙ b.described in cc
-
-pub completed : (command : Command) (desc input out : Flow) (result : Status) → Ended command desc input out result → Completed command desc input out result
-completed command desc input out Done h told it sd si so p a v = inl refl
-completed command desc input out NoMemory h told it sd si so p a v = inr refl
-completed command desc input out Usage h told it sd si so p a v = absurd h
-completed command desc input out DescFault h told it sd si so p a v = absurd (sd h.0)
-completed command desc input out InputFault h told it sd si so p a v = absurd (si h.0)
-completed command desc input out OutFault h told it sd si so p a v = absurd (so h.0)
-completed command desc input out (Descriptor cause) h told it sd si so p a v = absurd (refused-cause command desc.before p cause a (h.0 told))
-completed Member desc input out NotCodeword h told it sd si so p a v =
-    let s : Answered Member desc input out NotCodeword = h told it in
-    absurd (s.said.1 (subst (λ (q : Parts). IsValid Member q input.before) (same-parts Member desc.before p s.parts a s.accepted) v))
-completed Member desc input out (WordLength taken) h told it sd si so p a v =
-    let s : Answered Member desc input out (WordLength taken) = h.0 told it in
-    let q : IsValid Member s.parts input.before = subst (λ (q : Parts). IsValid Member q input.before) (same-parts Member desc.before p s.parts a s.accepted) v in
-    absurd (s.said.0 q.n_long)
-completed Points desc input out NotCodeword h told it sd si so p a v = absurd ((h told it).said)
-completed Points desc input out (WordLength taken) h told it sd si so p a v = absurd ((h.0 told it).said)
-completed Params desc input out s h told it sd si so p a v = absurd v
-completed Bound desc input out s h told it sd si so p a v = absurd v
-completed Check desc input out s h told it sd si so p a v = absurd v
-completed Encode desc input out s h told it sd si so p a v = absurd v
-completed Decode desc input out s h told it sd si so p a v = absurd v
-completed Votes desc input out s h told it sd si so p a v = absurd v
-completed Trial desc input out s h told it sd si so p a v = absurd v
-
-pub points-at : (command : Command) (p : Parts) (desc input out : Flow) (result : Status) → command ≡ Points → (IsTrue desc.tells → meaning desc.before ≡ describes p) → PointsEnded p out result →
-    Ended command desc input out result
-points-at command p desc input out result e read h = subst (λ (x : Command). Ended x desc input out result) (sym e) (points-ended p desc input out result read h)
-
-pub member-at : (command : Command) (p : Parts) (desc input out : Flow) (result : Status) → command ≡ Member → (IsTrue desc.tells → meaning desc.before ≡ describes p) → has_points p.points ≡ true →
-    MemberEnded p input out result → Ended command desc input out result
-member-at command p desc input out result e read some h = subst (λ (x : Command). Ended x desc input out result) (sym e) (member-ended p desc input out result read some h)
+pub takes-code : (command : Command) (p : Parts) → has_points p.points ≡ true → (IsFull p → ⊥) → (cause : DescCause) → IsRefusedPart command p cause → ⊥
+takes-code command p some free TooLarge h = h
+takes-code command p some free NotToml h = h
+takes-code command p some free (BadKey key) h = h
+takes-code command p some free BadField h = h
+takes-code command p some free BadDegrees h = h
+takes-code command p some free (BadTerm index) h = h
+takes-code command p some free MissingLead h = h
+takes-code command p some free (BadPoint index) h = h
+takes-code command p some free BadWeight h = h
+takes-code command p some free BadDepth h = h
+takes-code command p some free NoPoints h = let k : true ≡ false = sym some ∙ h.1 in let z : ⊥ = cc in z
+takes-code command p some free NothingFree h = free h.2
 
 -- what a text means, by the bytes that were read of it
 pub read-means : (before bytes text : List ℕ) (p : Parts) → text ≡ bytes → meaning bytes ≡ meaning before → meaning text ≡ describes p → meaning before ≡ describes p
 read-means before bytes text p e m d = sym m ∙ ap meaning (sym e) ∙ d
 
 -- how a command ended, for each reading of the words
-pub ended-for : (texts : List (List ℕ)) (asked w : Words) (desc input out : Flow) (result : Status) → IsCommandLine texts asked → Ended asked.command desc input out result → IsAsked texts w →
-    Ended w.command desc input out result
-ended-for texts asked w desc input out result line h k =
-    subst (λ (x : Words). Ended x.command desc input out result) (line-says texts asked w line k.line) h
+pub ended-for : (texts : List (List ℕ)) (asked w : Words) (desc input out report : Flow) (result : Status) → IsCommandLine texts asked → Ended asked.command desc input out report result → IsAsked texts w →
+    Ended w.command desc input out report result
+ended-for texts asked w desc input out report result line h k =
+    subst (λ (x : Words). Ended x.command desc input out report result) (line-says texts asked w line k.line) h
 
 pub not_built : (texts : List (List ℕ)) (asked w : Words) → IsCommandLine texts asked → is_built asked.command ≡ false → IsAsked texts w → ⊥
 not_built texts asked w line h k =
@@ -118,8 +229,26 @@ not_built texts asked w line h k =
     let z : false ≡ true = sym h ∙ ap (λ (x : Words). is_built x.command) e ∙ k.built in
     let r : ⊥ = cc in r
 
-pub not_usage : (command : Command) (desc input out : Flow) (result : Status) → Ended command desc input out result → result ≡ Usage → ⊥
-not_usage command desc input out result h e = subst (λ (s : Status). Ended command desc input out s) e h
+pub not_usage : (command : Command) (desc input out report : Flow) (result : Status) → Ended command desc input out report result → result ≡ Usage → ⊥
+not_usage command desc input out report result h e = subst (λ (s : Status). Ended command desc input out report s) e h
 
 pub not_empty : (n : ℕ) (b : Bool) (length_is : ℕ) → b ≡ (n == 0) → b ≡ false → n ≡ length_is → length_is ≡ 0 → ⊥
 not_empty n b l e f g h = absurd (let k : n ≡ 0 = g ∙ h in grind (arith, common_steps, nat_tests))
+
+-- memory is wanting, and nothing was touched
+pub wanting : (command : Command) (input out report : Flow) → Untouched input → Untouched out → Untouched report → Wanting command input out report
+wanting Member input out report i o r = (o, r)
+wanting Points input out report i o r = (o, r)
+wanting Params input out report i o r = (o, r)
+wanting Bound input out report i o r = (o, r)
+wanting Check input out report i o r = (o, r)
+wanting Encode input out report i o r = (i, o, r)
+wanting Decode input out report i o r = (i, o, r)
+wanting Votes input out report i o r = (o, r)
+wanting Trial input out report i o r = (o, r)
+
+pub refused-text : (command : Command) (before bytes text : List ℕ) (cause : DescCause) → text ≡ bytes → meaning bytes ≡ meaning before → meaning text ≡ refused cause → IsRefused command (meaning before) cause
+refused-text command before bytes text cause e m d = subst (λ (x : Meaning). IsRefused command x cause) (sym (sym m ∙ ap meaning (sym e) ∙ d)) refl
+
+pub ended-at : (command x : Command) (desc input out report : Flow) (status : Status) → command ≡ x → Ended x desc input out report status → Ended command desc input out report status
+ended-at command x desc input out report status e h = subst (λ (y : Command). Ended y desc input out report status) (sym e) h

@@ -1,10 +1,9 @@
 -- Texts that are read, and texts that are made
-use Rattle.std.proofs.Common.{◌≡◌, ℕ, ◌+◌, ◌<◌, ◌≤◌, List, [], ◌∷◌, ◌++◌, length, take, get_or, sym, ap, ◌∙◌, inl, inr, arith, refl, append-nil, ◌≢◌, min, Result, Ok, Err, IfOk, Vec, Global, Bool, IsTrue, length-append, suc}
+use Rattle.std.proofs.Common.{◌≡◌, ℕ, ◌+◌, ◌<◌, List, [], ◌∷◌, ◌++◌, length, take, get_or, sym, ap, ◌∙◌, inl, inr, arith, append-nil, ◌≢◌, min, Result, Ok, Err, IfOk, Vec, Global, Bool, IsTrue, length-append}
 use Rattle.std.specs.List.{flat_map}
 use Rattle.std.proofs.lemmas.Grind.{flat_map-append, common_steps}
 use Rattle.std.proofs.lemmas.List.{take_more, length-take-le}
-use Rattle.code_descriptor.specs.declared.DescCause.TheVariants.{TooLarge}
-use Rattle.code_descriptor.specs.Meaning.{meaning, refused}
+use Rattle.code_descriptor.specs.Meaning.{meaning}
 use Rattle.code_descriptor.proofs.Texts.{too_large}
 use Rattle.agcode_top.specs.Texts.{IsFront}
 

@@ -1,80 +1,166 @@
--- is_built        whether the program has a command
--- IsAsked         words are a command line of a command that is built
--- takes_no_points    whether a command takes an empty list of points
--- has_points      whether a list of points is not empty
--- refusal_in      why a command refuses what a descriptor's text means, if it does
--- Accepts         a command accepts a descriptor's text, which describes these parts
--- code_data       what makes the code of a descriptor
--- IsInputTold     the bytes of the input are told, where a command reads them
--- Says            how a command ends, by the parts of the descriptor and the bytes of the input
--- points_text     all points of a curve, a line each
--- text_of         the text of a command on out, by the parts and how it ends
--- IsValid         the input is one that a command takes
-use Rattle.std.specs.Prelude.{◌≡◌, ◌≢◌, ℕ, ◌+◌, min, Bool, true, false, ◌||◌, List, [], length, map, codes, Option, Some, None, IsTrue, if◌then◌else◌}
+-- is_built           whether the program has a command
+-- IsAsked            words are a command line of a command that is built
+-- takes_no_code      whether a command serves a curve without a code of it
+-- has_points         whether a list of points is not empty
+-- IsRefused          a command refuses what a descriptor's text means, for this cause
+-- Accepts            a command accepts a descriptor's text, which describes these parts
+-- IsInputTold        the bytes of the input are told, where a command reads them
+-- IsNoWord           an input is longer or shorter than a word; what was taken of it
+-- HasParameters      a text is the parameters of the code of a descriptor, with the normal form of y^a
+-- HasTable           a text is the table of its order bound
+-- AcceptsTable       an input is that table, and a text tells its bound
+-- RefusesTable       an input is not that table, and this is the first line at which a check fails
+-- HasVotes           a text is the ledger of the error that leads an input to the codeword near it
+-- IsFar              no codeword is near an input
+-- points_text        all points of a curve, a line each
+-- SaysMember         how member ends, with its text on out
+-- SaysCheck          the same of check
+-- SaysVotes          the same of votes
+-- Says               how a command ends, with its text on out, by the parts of the descriptor and the bytes of the input
+-- IsNearCode         an input of n bytes that a codeword is near
+-- IsRefusedPart      .. or refuses what it describes
+use Rattle.std.specs.Prelude.{◌≡◌, ◌≢◌, ℕ, ◌+◌, ◌<◌, ◌≤◌, min, Bool, true, false, List, [], length, codes, IsTrue}
 use Rattle.std.specs.List.{flat_map}
-use Rattle.ag_texts.specs.Lines.{plain_line_of, point_line_of}
+use Rattle.ag_texts.specs.Lines.{plain_line_of, number_line_of, point_line_of}
+use Rattle.order_theory.specs.Basis.{times}
+use Rattle.order_theory.specs.Codes.{IsOrderBound}
+use Rattle.order_theory.specs.Codes.{IsNear, low_bits, list_sum}
 use Rattle.order_domain.specs.declared.Point.{Point}
 use Rattle.cab_curve.specs.Points.{curve_points}
+use Rattle.cab_curve.specs.NormalForms.{IsNormalOf}
+use Rattle.cab_curve.specs.declared.normal.NormTerm.{NormTerm}
+use Rattle.vote_core.specs.Ledgers.{ledger_of}
+use Rattle.order_bound.specs.TableText.{IsTableOf, basis_table}
+use Rattle.order_bound.specs.TableChecks.{IsRefused as IsRefusedText}
+use Rattle.block_code.specs.Compiled.{Compiled}
 use Rattle.command_words.specs.declared.words.Command.{Command}
-use Rattle.command_words.specs.declared.words.Command.TheVariants.{Member, Points}
+use Rattle.command_words.specs.declared.words.Command.TheVariants.{Member, Points, Params, Bound, Check, Encode, Decode, Votes}
 use Rattle.command_words.specs.declared.words.Words.{Words}
 use Rattle.command_words.specs.Lines.{IsCommandLine}
 use Rattle.code_descriptor.specs.declared.DescCause.{DescCause}
-use Rattle.code_descriptor.specs.declared.DescCause.TheVariants.{NoPoints}
+use Rattle.code_descriptor.specs.declared.DescCause.TheVariants.{NoPoints, NothingFree}
 use Rattle.code_descriptor.specs.Meaning.{Parts, Meaning, meaning, refused, describes}
+use Rattle.descriptor_code.specs.Codes.{curve_of, domain_of, rule_of, IsFull, IsCodeOf}
+use Rattle.descriptor_code.specs.Monomials.{IsCodeword, code_data}
+use Rattle.code_texts.specs.Texts.{params_text_of, votes_text_of}
 use Rattle.agcode_top.specs.declared.status.Status.{Status}
-use Rattle.agcode_top.specs.declared.status.Status.TheVariants.{Done, NotCodeword, WordLength}
-use Rattle.agcode_top.specs.Code.{CodeData, IsCodeword}
+use Rattle.agcode_top.specs.declared.status.Status.TheVariants.{Done, NotCodeword, WordLength, Beyond, TableRefused, TooLong}
 
 abbrev pub is_built : Command → Bool
 is_built Member = true
 is_built Points = true
+is_built Params = true
+is_built Bound = true
+is_built Check = true
+is_built Encode = true
+is_built Decode = true
+is_built Votes = true
 is_built _ = false
 
 pub record IsAsked (texts : List (List ℕ)) (w : Words) : Type 0 where
   pub line : IsCommandLine texts w
   pub built : is_built w.command ≡ true
 
-abbrev pub takes_no_points : Command → Bool
-takes_no_points Points = true
-takes_no_points _ = false
+abbrev pub takes_no_code : Command → Bool
+takes_no_code Points = true
+takes_no_code _ = false
 
 abbrev pub has_points : List Point → Bool
 has_points [] = false
 has_points _ = true
 
-abbrev pub refusal_in : Command → Meaning → Option DescCause
-refusal_in command (refused cause) = Some cause
-refusal_in command (describes p) = if takes_no_points command || has_points p.points then None else Some NoPoints
+abbrev pub IsRefusedPart : Command → Parts → DescCause → Type 0
+IsRefusedPart command p NoPoints = (takes_no_code command ≡ false) × (has_points p.points ≡ false)
+IsRefusedPart command p NothingFree = (takes_no_code command ≡ false) × (has_points p.points ≡ true) × IsFull p
+IsRefusedPart command p _ = ⊥
+
+abbrev pub IsRefused : Command → Meaning → DescCause → Type 0
+IsRefused command (refused cause) c = c ≡ cause
+IsRefused command (describes p) c = IsRefusedPart command p c
 
 pub record Accepts (command : Command) (text : List ℕ) (p : Parts) : Type 0 where
   pub described : meaning text ≡ describes p
-  pub accepted : refusal_in command (meaning text) ≡ None
-
-abbrev pub code_data : Parts → CodeData
-code_data p = record { bits = p.bits; modulus = p.modulus; a = p.a; b = p.b; points = p.points; weight = p.weight }
+  pub accepted : (cause : DescCause) → IsRefusedPart command p cause → ⊥
 
 abbrev pub IsInputTold : Command → Bool → Type 0
 IsInputTold Points tells = Unit {0}
+IsInputTold Params tells = Unit {0}
+IsInputTold Bound tells = Unit {0}
 IsInputTold _ tells = IsTrue tells
 
-abbrev pub Says : Command → Parts → List ℕ → Status → Type 0
-Says Member p input Done = IsCodeword (code_data p) input
-Says Member p input NotCodeword = (length input ≡ length p.points) × (IsCodeword (code_data p) input → ⊥)
-Says Member p input (WordLength taken) = (length input ≢ length p.points) × (taken ≡ min (length input) (length p.points + 1))
-Says Points p input Done = Unit {0}
-Says _ p input status = ⊥
+pub record IsNoWord (p : Parts) (input : List ℕ) (taken : ℕ) : Type 0 where
+  pub other_length : length input ≢ length p.points
+  pub taken_is : taken ≡ min (length input) (length p.points + 1)
 
 abbrev pub points_text : Parts → List ℕ
 points_text p = flat_map (λ q. point_line_of q.x q.y) (curve_points p.bits p.modulus p.terms)
 
-abbrev pub text_of : Command → Parts → Status → List ℕ
-text_of Member p Done = plain_line_of (codes "codeword")
-text_of Member p NotCodeword = plain_line_of (codes "not a codeword")
-text_of Points p Done = points_text p
-text_of _ p status = []
+pub record HasParameters (p : Parts) (text : List ℕ) : Type 0 where
+  pub code : Compiled
+  pub is_code : IsCodeOf p code
+  pub relation : List NormTerm
+  pub is_relation : IsNormalOf (curve_of p) p.modulus 0 p.a relation
+  pub text_is : text ≡ params_text_of code.basis code.marks code.bound code.radius relation
 
-abbrev pub IsValid : Command → Parts → List ℕ → Type 0
-IsValid Member p input = IsCodeword (code_data p) input
-IsValid Points p input = Unit {0}
-IsValid _ p input = ⊥
+pub record HasTable (p : Parts) (text : List ℕ) : Type 0 where
+  pub code : Compiled
+  pub is_code : IsCodeOf p code
+  pub is_table : IsTableOf code.basis code.marks text
+
+pub record AcceptsTable (p : Parts) (input text : List ℕ) : Type 0 where
+  pub code : Compiled
+  pub is_code : IsCodeOf p code
+  pub bound : ℕ
+  pub is_bound : IsOrderBound code.basis code.marks bound
+  pub is_table : input ≡ basis_table code.basis code.marks bound
+  pub text_is : text ≡ number_line_of (codes "accepted bound") bound
+
+pub record RefusesTable (p : Parts) (input : List ℕ) (line : ℕ) : Type 0 where
+  pub code : Compiled
+  pub is_code : IsCodeOf p code
+  pub not_table : IsTableOf code.basis code.marks input → ⊥
+  pub refused : IsRefusedText (domain_of p) p.modulus p.points (rule_of p) input line
+
+pub record HasVotes (p : Parts) (input text : List ℕ) : Type 0 where
+  pub code : Compiled
+  pub is_code : IsCodeOf p code
+  pub word : List ℕ
+  pub near : IsNear (times code.basis) code.basis code.marks code.radius input word
+  pub text_is : text ≡ votes_text_of (ledger_of code.basis code.marks (list_sum (low_bits code.basis.bits input) word))
+
+pub record IsFar (p : Parts) (input : List ℕ) : Type 0 where
+  pub code : Compiled
+  pub is_code : IsCodeOf p code
+  pub none : (word : List ℕ) → IsNear (times code.basis) code.basis code.marks code.radius input word → ⊥
+
+abbrev pub SaysMember : Parts → List ℕ → Status → List ℕ → Type 0
+SaysMember p input Done text = IsCodeword (code_data p) input × (text ≡ plain_line_of (codes "codeword"))
+SaysMember p input NotCodeword text = (length input ≡ length p.points) × (IsCodeword (code_data p) input → ⊥) × (text ≡ plain_line_of (codes "not a codeword"))
+SaysMember p input (WordLength taken) text = IsNoWord p input taken × (text ≡ [])
+SaysMember p input _ text = ⊥
+
+abbrev pub SaysCheck : Parts → List ℕ → Status → List ℕ → Type 0
+SaysCheck p input Done text = AcceptsTable p input text
+SaysCheck p input (TableRefused line) text = RefusesTable p input line × (text ≡ [])
+SaysCheck p input (TooLong taken) text = (67108864 < taken) × (taken ≤ length input) × (text ≡ [])
+SaysCheck p input _ text = ⊥
+
+abbrev pub SaysVotes : Parts → List ℕ → Status → List ℕ → Type 0
+SaysVotes p input Done text = (length input ≡ length p.points) × HasVotes p input text
+SaysVotes p input (Beyond group word) text = (group ≡ 0) × (word ≡ 0) × (length input ≡ length p.points) × IsFar p input × (text ≡ [])
+SaysVotes p input (WordLength taken) text = IsNoWord p input taken × (text ≡ [])
+SaysVotes p input _ text = ⊥
+
+abbrev pub Says : Command → Parts → List ℕ → Status → List ℕ → Type 0
+Says Member p input status text = SaysMember p input status text
+Says Points p input status text = (status ≡ Done) × (text ≡ points_text p)
+Says Params p input status text = (status ≡ Done) × HasParameters p text
+Says Bound p input status text = (status ≡ Done) × HasTable p text
+Says Check p input status text = SaysCheck p input status text
+Says Votes p input status text = SaysVotes p input status text
+Says _ p input status text = ⊥
+
+-- a word of n bytes that a codeword is near
+pub record IsNearCode (p : Parts) (input : List ℕ) : Type 0 where
+  pub n_long : length input ≡ length p.points
+  pub near : (code : Compiled) → IsCodeOf p code → (word : List ℕ) × IsNear (times code.basis) code.basis code.marks code.radius input word

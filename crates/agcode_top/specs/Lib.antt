@@ -1,7 +1,9 @@
-pub mod Code
 pub mod Flows
 pub mod Lines
-pub mod Commands
-pub mod Runs
+pub mod Inputs
 pub mod Texts
+pub mod Commands
 pub mod Steps
+pub mod Streams
+pub mod Runs
+pub mod Headline

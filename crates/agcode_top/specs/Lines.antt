@@ -2,22 +2,28 @@
 -- cause_line_of    the line on report of a cause that refuses a descriptor
 -- line_of          the line on report of a status; nothing, where it has none
 use Rattle.std.specs.Prelude.{ℕ, List, [], codes}
-use Rattle.ag_texts.specs.Lines.{plain_line_of, number_line_of}
+use Rattle.ag_texts.specs.Lines.{plain_line_of, number_line_of, beyond_line_of}
 use Rattle.code_descriptor.specs.declared.KeyName.TheVariants as key
 use Rattle.code_descriptor.specs.declared.DescCause.{DescCause}
 use Rattle.code_descriptor.specs.declared.DescCause.TheVariants as cause
 use Rattle.agcode_top.specs.declared.status.Status.{Status}
-use Rattle.agcode_top.specs.declared.status.Status.TheVariants.{Done, NotCodeword, WordLength, Usage, Descriptor, DescFault, InputFault, OutFault, NoMemory}
+use Rattle.agcode_top.specs.declared.status.Status.TheVariants.{Done, NotCodeword, Beyond, Ragged, Framing, TableRefused, WordLength, Usage, Descriptor, TooLong, DescFault, InputFault, OutFault, ReportFault, NoMemory}
 
 abbrev pub number_of : Status → ℕ
 number_of Done = 0
 number_of NotCodeword = 1
+number_of (Beyond group word) = 2
+number_of (Ragged extra) = 3
+number_of Framing = 4
+number_of (TableRefused line) = 5
 number_of (WordLength taken) = 6
 number_of Usage = 64
 number_of (Descriptor cause) = 65
+number_of (TooLong taken) = 66
 number_of DescFault = 70
 number_of InputFault = 71
 number_of OutFault = 72
+number_of ReportFault = 73
 number_of NoMemory = 74
 
 abbrev pub cause_line_of : DescCause → List ℕ
@@ -45,10 +51,16 @@ cause_line_of cause.NothingFree = plain_line_of (codes "descriptor: nothing free
 abbrev pub line_of : Status → List ℕ
 line_of Done = []
 line_of NotCodeword = []
+line_of (Beyond group word) = beyond_line_of group word
+line_of (Ragged extra) = number_line_of (codes "ragged") extra
+line_of Framing = plain_line_of (codes "framing")
+line_of (TableRefused line) = number_line_of (codes "table refused at line") line
 line_of (WordLength taken) = plain_line_of (codes "word length")
 line_of Usage = plain_line_of (codes "usage: agcode COMMAND [OPTIONS] DESC")
 line_of (Descriptor cause) = cause_line_of cause
+line_of (TooLong taken) = plain_line_of (codes "too long")
 line_of DescFault = plain_line_of (codes "descriptor not read")
 line_of InputFault = plain_line_of (codes "input not read")
 line_of OutFault = plain_line_of (codes "output not written")
+line_of ReportFault = []
 line_of NoMemory = plain_line_of (codes "no memory")

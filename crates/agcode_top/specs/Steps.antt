@@ -3,17 +3,10 @@
 --                written
 -- WroteText      the first of these
 -- WroteFront     the second
--- SaidMember     member said its answer, with its text on out
--- StoppedMember  member was stopped by a fault of out, after a front of its text
--- MemberEnded    what holds by the status that member ended with, over a descriptor that it accepts
--- PointsEnded    the same of points
 use Rattle.std.specs.Prelude.{◌≡◌, ◌≢◌, ℕ, ◌+◌, min, List, ◌++◌, length, IsTrue, ◌⊎◌}
-use Rattle.code_descriptor.specs.Meaning.{Parts}
-use Rattle.command_words.specs.declared.words.Command.TheVariants.{Member}
 use Rattle.agcode_top.specs.declared.status.Status.{Status}
-use Rattle.agcode_top.specs.declared.status.Status.TheVariants.{Done, NotCodeword, WordLength, InputFault, OutFault, NoMemory}
-use Rattle.agcode_top.specs.Flows.{Flow, Untouched, Failed, GavePart}
-use Rattle.agcode_top.specs.Commands.{Says, text_of, points_text}
+use Rattle.agcode_top.specs.declared.status.Status.TheVariants.{WordLength, InputFault, OutFault, NoMemory}
+use Rattle.agcode_top.specs.Flows.{Flow, Failed, GavePart}
 
 abbrev pub IsWordFault : ℕ → Flow → Status → Type 0
 IsWordFault n input NoMemory = Unit {0}
@@ -32,27 +25,3 @@ pub record WroteFront (out : Flow) (text : List ℕ) (result : Status) : Type 0 
 
 abbrev pub GaveText : Flow → List ℕ → Status → Status → Type 0
 GaveText out text status result = WroteText out text status result ⊎ WroteFront out text result
-
-pub record SaidMember (p : Parts) (input out : Flow) (status : Status) : Type 0 where
-  pub said : Says Member p input.before status
-  pub given : IsTrue out.tells → out.after ≡ out.before ++ text_of Member p status
-
-pub record StoppedMember (p : Parts) (input out : Flow) : Type 0 where
-  pub status : Status
-  pub said : Says Member p input.before status
-  pub given : IsTrue out.tells → GavePart out.before out.after (text_of Member p status)
-
-abbrev pub MemberEnded : Parts → Flow → Flow → Status → Type 0
-MemberEnded p input out InputFault = Failed input × Untouched out
-MemberEnded p input out NoMemory = Untouched out
-MemberEnded p input out OutFault = Failed out × (IsTrue input.tells → StoppedMember p input out)
-MemberEnded p input out Done = IsTrue input.tells → SaidMember p input out Done
-MemberEnded p input out NotCodeword = IsTrue input.tells → SaidMember p input out NotCodeword
-MemberEnded p input out (WordLength taken) = (IsTrue input.tells → SaidMember p input out (WordLength taken)) × Untouched out
-MemberEnded p input out _ = ⊥
-
-abbrev pub PointsEnded : Parts → Flow → Status → Type 0
-PointsEnded p out NoMemory = Untouched out
-PointsEnded p out OutFault = Failed out × (IsTrue out.tells → GavePart out.before out.after (points_text p))
-PointsEnded p out Done = IsTrue out.tells → out.after ≡ out.before ++ points_text p
-PointsEnded p out _ = ⊥

@@ -3,12 +3,20 @@
 #![tactic(auto)]
 
 mod check;
+mod decode;
+mod encode;
+mod input;
+mod limit;
 mod member;
+mod params;
 mod points;
 mod report;
 mod status;
+mod table;
 mod text;
 mod top;
+mod votes;
+mod word;
 
 pub use status::Status;
 pub use top::run;

@@ -1,73 +1,38 @@
 //! Whether a word of the input is in the code.
 
-ghost use Rattle.std.specs.Prelude.{◌≡◌, ℕ, ◌≤◌, length, IsTrue, IfOk, IfErr};
-ghost use Rattle.code_descriptor.specs.Views.{parts_of, IsDescriptor};
+ghost use Rattle.std.specs.Prelude.{◌≡◌, ℕ, ◌≤◌, length, IsTrue};
+ghost use Rattle.command_words.specs.declared.words.Command.TheVariants.{Member};
+ghost use Rattle.code_descriptor.specs.Meaning.{Parts};
+ghost use Rattle.descriptor_code.specs.Codes.{IsDescribed};
 ghost use Rattle.agcode_top.specs.Flows.{flow};
-ghost use Rattle.agcode_top.specs.Steps.{MemberEnded, IsWordFault, GaveText};
+ghost use Rattle.agcode_top.specs.Runs.{PlainDid};
 
-use crate::check::is_codeword;
 use crate::status::Status;
-use ag_io::{Filled, Sink, Source, fill, put};
-use code_descriptor::Descriptor;
+use crate::word::{answer, read_word};
+use ag_io::{Sink, Source};
+use descriptor_code::DescribedCode;
 use std::alloc::Global;
-
-// Reads a word of n bytes, which is all of the input; else the status says why there is none.
-#[tactic(auto, using(crate::proofs::TextLemmas::word_steps))]
-fn read_word<I: Source>(alloc: Global, n: usize, input: &mut I) -> Result<Vec<u8>, Status>
-    requires { n ≤ 1024 }
-    ensures long { IfOk result (λ word. length word.items ≡ n) }
-    ensures word { IfOk result (λ word. IsTrue I.tells → I.left input.old ≡ word.items) }
-    ensures fault { IfErr result (IsWordFault n (flow I.tells (I.left input.old) (I.left input.new) (I.faults input.old) (I.faults input.new))) }
-    ensures counted { I.faults input.old ≤ I.faults input.new }
-{
-    let Ok(mut word) = vec![in alloc; 0u8; n + 1] else {
-        return Err(Status::NoMemory);
-    };
-    match fill(input, &mut word) {
-        Filled::Whole => Err(Status::WordLength {
-            taken: n as u32 + 1,
-        }),
-        Filled::End { got } => {
-            if got != n {
-                return Err(Status::WordLength { taken: got as u32 });
-            }
-            word.truncate(n);
-            Ok(word)
-        }
-        Filled::Fault { .. } => Err(Status::InputFault),
-    }
-}
-
-/// Writes a text, and answers the status, or that the output could not be written.
-pub fn answer<O: Sink>(out: &mut O, text: &[u8], status: Status) -> Status
-    ensures given { GaveText (flow O.tells (O.given out.old) (O.given out.new) (O.faults out.old) (O.faults out.new)) text.now status result }
-    ensures counted { O.faults out.old ≤ O.faults out.new }
-{
-    match put(out, text) {
-        Ok(()) => status,
-        Err(_) => Status::OutFault,
-    }
-}
 
 /// Reads a word, and says whether it is in the code.
 pub fn member<I: Source, O: Sink>(
     alloc: Global,
-    d: &Descriptor,
+    described: &DescribedCode,
     input: &mut I,
     out: &mut O,
 ) -> Status
-    requires { IsDescriptor d.now }
-    ensures ended { MemberEnded (parts_of d.now)
+    requires { (p : Parts) × IsDescribed p described.now }
+    ensures did { (p : Parts) → IsDescribed p described.now → PlainDid Member p
         (flow I.tells (I.left input.old) (I.left input.new) (I.faults input.old) (I.faults input.new))
         (flow O.tells (O.given out.old) (O.given out.new) (O.faults out.old) (O.faults out.new)) result }
     ensures input_counted { I.faults input.old ≤ I.faults input.new }
     ensures out_counted { O.faults out.old ≤ O.faults out.new }
 {
-    let word = match read_word(alloc, d.points.len(), input) {
+    let code = &described.code;
+    let word = match read_word(alloc, code.n() as usize, input) {
         Ok(word) => word,
         Err(status) => return status,
     };
-    if is_codeword(&d.field, &d.curve, &d.points, d.weight, &word) {
+    if code.parity().member(code.field(), &word) {
         answer(out, b"codeword\n", Status::Done)
     } else {
         answer(out, b"not a codeword\n", Status::NotCodeword)

@@ -5,11 +5,13 @@ ghost use Rattle.std.specs.List.{flat_map};
 ghost use Rattle.ag_texts.specs.Lines.{point_line_of};
 ghost use Rattle.code_descriptor.specs.Views.{parts_of, IsDescriptor};
 ghost use Rattle.agcode_top.specs.Commands.{points_text};
-ghost use Rattle.agcode_top.specs.Flows.{flow};
-ghost use Rattle.agcode_top.specs.Steps.{PointsEnded};
+ghost use Rattle.agcode_top.specs.Flows.{Flow, flow};
+ghost use Rattle.agcode_top.specs.Runs.{PlainDid};
+ghost use Rattle.command_words.specs.declared.words.Command.TheVariants.{Points};
 
 use crate::status::Status;
-use ag_io::{Sink, put};
+use crate::word::answer;
+use ag_io::Sink;
 use ag_texts::{LineBuf, point_line};
 use cab_curve::Point;
 use code_descriptor::Descriptor;
@@ -40,15 +42,12 @@ fn text_of_points(alloc: Global, d: &Descriptor) -> Result<Vec<u8>, AllocError>
 /// Writes all points of the curve, a line each.
 pub fn points<O: Sink>(alloc: Global, d: &Descriptor, out: &mut O) -> Status
     requires { IsDescriptor d.now }
-    ensures ended { PointsEnded (parts_of d.now)
+    ensures did { (input : Flow) → PlainDid Points (parts_of d.now) input
         (flow O.tells (O.given out.old) (O.given out.new) (O.faults out.old) (O.faults out.new)) result }
     ensures out_counted { O.faults out.old ≤ O.faults out.new }
 {
     match text_of_points(alloc, d) {
+        Ok(text) => answer(out, &text, Status::Done),
         Err(_) => Status::NoMemory,
-        Ok(text) => match put(out, &text) {
-            Ok(()) => Status::Done,
-            Err(_) => Status::OutFault,
-        },
     }
 }

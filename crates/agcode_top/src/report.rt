@@ -1,13 +1,13 @@
 //! The line on report that follows a status.
 
-ghost use Rattle.std.specs.Prelude.{◌≡◌, ℕ, ◌≤◌, ◌++◌, IsTrue};
+ghost use Rattle.std.specs.Prelude.{◌≡◌, ℕ, ◌≤◌, ◌++◌, [], IsTrue};
 ghost use Rattle.ag_io.specs.Counts.{Rose};
 ghost use Rattle.agcode_top.specs.Lines.{cause_line_of, line_of};
 ghost use Rattle.agcode_top.specs.Flows.{GaveOrFailed};
 
 use crate::status::Status;
 use ag_io::{Sink, put};
-use ag_texts::{LineBuf, number_line, plain_line};
+use ag_texts::{LineBuf, beyond_line, number_line, plain_line};
 use code_descriptor::{DescCause, KeyName};
 
 // The line of a key that is missing, of another kind, or none of a descriptor's.
@@ -52,7 +52,12 @@ fn status_line(buf: &mut LineBuf, status: &Status)
     ensures { buf.new ≡ line_of status.now }
 {
     match *status {
-        Status::Done | Status::NotCodeword => buf.clear(),
+        Status::Done | Status::NotCodeword | Status::ReportFault => buf.clear(),
+        Status::Beyond { group, word } => beyond_line(buf, group, word),
+        Status::Ragged { extra } => number_line(buf, "ragged", u64::from(extra)),
+        Status::Framing => plain_line(buf, "framing"),
+        Status::TableRefused { line } => number_line(buf, "table refused at line", u64::from(line)),
+        Status::TooLong { .. } => plain_line(buf, "too long"),
         Status::WordLength { .. } => plain_line(buf, "word length"),
         Status::Usage => plain_line(buf, "usage: agcode COMMAND [OPTIONS] DESC"),
         Status::Descriptor { cause } => cause_line(buf, cause),
@@ -66,9 +71,13 @@ fn status_line(buf: &mut LineBuf, status: &Status)
 /// Writes the line of a status. A write that fails is passed over: the status is fixed already.
 pub fn tell<R: Sink>(report: &mut R, status: &Status)
     ensures given { IsTrue R.tells → GaveOrFailed (R.given report.old) (R.given report.new) (R.faults report.old) (R.faults report.new) (line_of status.now) }
+    ensures quiet { line_of status.now ≡ [] → R.faults report.new ≡ R.faults report.old }
     ensures counted { R.faults report.old ≤ R.faults report.new }
 {
     let mut line = LineBuf::new();
     status_line(&mut line, status);
-    let _ = put(report, line.bytes());
+    let bytes = line.bytes();
+    if !bytes.is_empty() {
+        let _ = put(report, bytes);
+    }
 }

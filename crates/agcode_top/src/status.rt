@@ -12,18 +12,31 @@ pub enum Status {
     Done,
     /// member: the word is not in the code.
     NotCodeword,
-    /// member: the input is shorter or longer than a word; `taken` is its length, or one more than that of a word.
+    /// decode: the first codeword that is not within the radius of what came, by its group and its number there. votes: no
+    /// codeword is within the radius of the word; both numbers are 0.
+    Beyond { group: u64, word: u32 },
+    /// decode: the text is empty, or so many bytes stand after its whole groups.
+    Ragged { extra: u32 },
+    /// decode: the corrected bits are those of no file.
+    Framing,
+    /// check: the input is not the table of the order bound; the first line at which a check fails, from 1.
+    TableRefused { line: u32 },
+    /// member, votes: the input is shorter or longer than a word; `taken` is its length, or one more than that of a word.
     WordLength { taken: u32 },
     /// The words are no command line of a command that is built.
     Usage,
     /// The first cause that refuses the descriptor.
     Descriptor { cause: DescCause },
+    /// encode, decode, check: more bytes than the limit were taken; `taken` is their number.
+    TooLong { taken: u64 },
     /// The descriptor could not be read.
     DescFault,
     /// The input could not be read.
     InputFault,
     /// The output could not be written.
     OutFault,
+    /// decode: the report could not be written.
+    ReportFault,
     /// Memory was wanting. Nothing was written on the output.
     NoMemory,
 }
@@ -36,12 +49,18 @@ impl Status {
         match self {
             Status::Done => 0,
             Status::NotCodeword => 1,
+            Status::Beyond { .. } => 2,
+            Status::Ragged { .. } => 3,
+            Status::Framing => 4,
+            Status::TableRefused { .. } => 5,
             Status::WordLength { .. } => 6,
             Status::Usage => 64,
             Status::Descriptor { .. } => 65,
+            Status::TooLong { .. } => 66,
             Status::DescFault => 70,
             Status::InputFault => 71,
             Status::OutFault => 72,
+            Status::ReportFault => 73,
             Status::NoMemory => 74,
         }
     }

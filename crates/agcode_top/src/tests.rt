@@ -208,3 +208,84 @@ fn a_call_that_fails_has_its_status(rt: HostRuntime) -> Result<(), Fail> {
     assert_eq!(rt; left.out.bytes(), b"".as_slice());
     Ok(())
 }
+
+#[test]
+fn params_and_bound_tell_of_the_code(rt: HostRuntime) -> Result<(), Fail> {
+    let alloc = rt.alloc();
+    let left = plain(&rt, alloc, "params D", HERMITIAN_4, &[])?;
+    let params =
+        b"n 8\nk 3\nchecks 5\nbound 5\nt 2\nlabels 0 2 3 4 5 6 7 9\nchecked 0 2 3 4 5\nrelation 3:1 6:1\n";
+    assert_eq!(rt; left.status, Status::Done);
+    assert_eq!(rt; left.out.bytes(), params.as_slice());
+    let table = plain(&rt, alloc, "bound D", HERMITIAN_4, &[])?;
+    let left = plain(&rt, alloc, "check D", HERMITIAN_4, table.out.bytes())?;
+    assert_eq!(rt; left.status, Status::Done);
+    assert_eq!(rt; left.out.bytes(), b"accepted bound 5\n".as_slice());
+    let left = plain(&rt, alloc, "check D", HERMITIAN_4, &[])?;
+    assert_eq!(rt;
+        left.report.bytes(),
+        b"table refused at line 1\n".as_slice()
+    );
+    let full = HERMITIAN_4.replace(alloc, "weight = 5", "weight = 9")?;
+    let left = plain(&rt, alloc, "params D", full.as_str(), &[])?;
+    assert_eq!(rt;
+        left.report.bytes(),
+        b"descriptor: nothing free\n".as_slice()
+    );
+    Ok(())
+}
+
+#[test]
+fn files_are_encoded_and_decoded(rt: HostRuntime) -> Result<(), Fail> {
+    let alloc = rt.alloc();
+    // the file of the one byte 41
+    let text = [1, 0, 0, 1, 2, 3, 1, 0, 1, 2, 0, 3, 0, 3, 0, 3];
+    let left = plain(&rt, alloc, "encode D", HERMITIAN_4, &[0x41])?;
+    assert_eq!(rt; left.status, Status::Done);
+    assert_eq!(rt; left.out.bytes(), text.as_slice());
+    let left = plain(&rt, alloc, "decode --workers 2 D", HERMITIAN_4, &text)?;
+    assert_eq!(rt; left.out.bytes(), b"A".as_slice());
+    assert_eq!(rt;
+        left.report.bytes(),
+        b"done bytes 1 groups 2 changed 0\n".as_slice()
+    );
+    // the empty file, with two changes
+    let left = plain(
+        &rt,
+        alloc,
+        "decode D",
+        HERMITIAN_4,
+        &[2, 0, 1, 0, 3, 1, 2, 0],
+    )?;
+    let lines = b"changed 0 0 2 01 00\nchanged 0 0 3 00 02\ndone bytes 0 groups 1 changed 2\n";
+    assert_eq!(rt; left.status, Status::Done);
+    assert_eq!(rt; left.out.bytes(), b"".as_slice());
+    assert_eq!(rt; left.report.bytes(), lines.as_slice());
+    // three bytes are changed, though two symbols are
+    let left = plain(
+        &rt,
+        alloc,
+        "decode D",
+        HERMITIAN_4,
+        &[6, 0, 0, 0, 3, 1, 0xff, 0],
+    )?;
+    assert_eq!(rt; left.status, Status::Beyond { group: 0, word: 0 });
+    assert_eq!(rt; left.report.bytes(), b"beyond 0 0\n".as_slice());
+    let left = plain(&rt, alloc, "decode D", HERMITIAN_4, &[0; 8])?;
+    assert_eq!(rt; left.report.bytes(), b"framing\n".as_slice());
+    let left = plain(&rt, alloc, "decode D", HERMITIAN_4, &[])?;
+    assert_eq!(rt; left.report.bytes(), b"ragged 0\n".as_slice());
+    Ok(())
+}
+
+#[test]
+fn votes_tells_what_the_candidates_said(rt: HostRuntime) -> Result<(), Fail> {
+    let alloc = rt.alloc();
+    let word = [2, 0, 1, 0, 3, 1, 2, 0];
+    let left = plain(&rt, alloc, "votes D", HERMITIAN_4, &word)?;
+    assert_eq!(rt; left.out.bytes(), b"6 5 2 1\n7 6 2 0\n9 8 4 0\n".as_slice());
+    let left = plain(&rt, alloc, "votes D", HERMITIAN_4, &FAR)?;
+    assert_eq!(rt; left.status, Status::Beyond { group: 0, word: 0 });
+    assert_eq!(rt; left.out.bytes(), b"".as_slice());
+    Ok(())
+}

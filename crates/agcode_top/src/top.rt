@@ -1,23 +1,37 @@
 //! The top call.
 
-ghost use Rattle.std.specs.Prelude.{◌≡◌, ℕ, ◌+◌, ◌≤◌, ◌↔◌, ◌++◌, length, map, IsTrue, Some, true};
+ghost use Rattle.std.specs.Prelude.{◌≡◌, ℕ, ◌+◌, ◌≤◌, ◌↔◌, ◌++◌, length, map, IsTrue, true, false};
 ghost use Rattle.std.specs.String.{string_bytes};
 ghost use Rattle.ag_io.specs.Counts.{Rose};
-ghost use Rattle.code_descriptor.specs.Meaning.{meaning};
+ghost use Rattle.command_words.specs.declared.words.Command.TheVariants.{Encode, Decode};
+ghost use Rattle.code_descriptor.specs.Meaning.{Parts, meaning};
+ghost use Rattle.code_descriptor.specs.Views.{parts_of, IsDescriptor};
+ghost use Rattle.descriptor_code.specs.Codes.{domain_of, IsDescribed};
 ghost use Rattle.agcode_top.specs.Flows.{flow, GaveOrFailed};
 ghost use Rattle.agcode_top.specs.Lines.{line_of};
-ghost use Rattle.agcode_top.specs.Commands.{is_built as has_command, IsAsked, IsInputTold, refusal_in};
-ghost use Rattle.agcode_top.specs.Runs.{Ended, IsAnswer, IsQuiet, IsEarly, Answered, GaveFront, Completed};
+ghost use Rattle.agcode_top.specs.Commands.{is_built as has_command, takes_no_code, IsAsked, IsInputTold, IsRefused};
+ghost use Rattle.agcode_top.specs.Runs.{Did, Carried, Ended, Obeyed, IsAnswer, IsQuiet, IsEarly, is_streamed};
+ghost use Rattle.agcode_top.specs.Headline.{Answered, GaveFront, HasImage, ReadAs, IsRead, IsRepair, Completed};
 
+use crate::check::check;
+use crate::decode::decode;
+use crate::encode::encode;
 use crate::member::member;
+use crate::params::params;
 use crate::points::points;
 use crate::report::tell;
 use crate::status::Status;
+use crate::table::table;
 use crate::text::{TextFault, read_text};
+use crate::votes::votes;
 use ag_io::{Sink, Source};
 use ag_pool::Gate;
+use block_code::CompileFault;
+use cab_curve::CabDomain;
 use code_descriptor::{DescCause, DescError, Descriptor, read};
 use command_words::{Command, Words, read_words};
+use descriptor_code::DescribedCode;
+use order_domain::OrderDomain;
 use std::alloc::Global;
 use std::thread::Threads;
 
@@ -25,54 +39,167 @@ use std::thread::Threads;
 fn is_built(command: Command) -> bool
     ensures { result ≡ has_command command }
 {
-    matches!(command, Command::Member | Command::Points)
+    !matches!(command, Command::Trial)
+}
+
+// Serves a command that works on the code of a descriptor.
+fn serve<X: Threads + Sync, I: Source, O: Sink, R: Sink, G: Gate>(
+    rt: &X,
+    alloc: Global,
+    asked: &Words,
+    described: &DescribedCode,
+    input: &mut I,
+    out: &mut O,
+    report: &mut R,
+    gate: &G,
+) -> Status
+    requires built { has_command asked.now.command ≡ true }
+    requires code { takes_no_code asked.now.command ≡ false }
+    requires some_workers { 1 ≤ asked.now.workers }
+    requires few_workers { asked.now.workers ≤ 64 }
+    requires described { (p : Parts) × IsDescribed p described.now × (⟦<CabDomain as OrderDomain>⟧.domain described.now.domain ≡ domain_of p) }
+    ensures did { (p : Parts) → IsDescribed p described.now → (⟦<CabDomain as OrderDomain>⟧.domain described.now.domain ≡ domain_of p) → Did asked.now.command p
+        (flow I.tells (I.left input.old) (I.left input.new) (I.faults input.old) (I.faults input.new))
+        (flow O.tells (O.given out.old) (O.given out.new) (O.faults out.old) (O.faults out.new))
+        (flow R.tells (R.given report.old) (R.given report.new) (R.faults report.old) (R.faults report.new)) result }
+    ensures input_counted { I.faults input.old ≤ I.faults input.new }
+    ensures out_counted { O.faults out.old ≤ O.faults out.new }
+    ensures report_counted { R.faults report.old ≤ R.faults report.new }
+{
+    match asked.command {
+        Command::Member => member(alloc, described, input, out),
+        Command::Params => params(alloc, described, out),
+        Command::Bound => table(alloc, described, out),
+        Command::Check => check(alloc, described, input, out),
+        Command::Encode => encode(alloc, described, input, out),
+        Command::Decode => decode(
+            rt,
+            alloc,
+            described,
+            asked.workers,
+            input,
+            out,
+            report,
+            gate,
+        ),
+        Command::Votes => votes(alloc, described, input, out),
+        _ => unreachable!(),
+    }
+}
+
+// Makes the code of a descriptor, and serves a command with it.
+fn compile_and_serve<X: Threads + Sync, I: Source, O: Sink, R: Sink, G: Gate>(
+    rt: &X,
+    alloc: Global,
+    asked: &Words,
+    descriptor: Descriptor,
+    input: &mut I,
+    out: &mut O,
+    report: &mut R,
+    gate: &G,
+) -> Status
+    requires built { has_command asked.now.command ≡ true }
+    requires code { takes_no_code asked.now.command ≡ false }
+    requires some_workers { 1 ≤ asked.now.workers }
+    requires few_workers { asked.now.workers ≤ 64 }
+    requires descriptor { IsDescriptor descriptor }
+    ensures carried { Carried asked.now.command (parts_of descriptor)
+        (flow I.tells (I.left input.old) (I.left input.new) (I.faults input.old) (I.faults input.new))
+        (flow O.tells (O.given out.old) (O.given out.new) (O.faults out.old) (O.faults out.new))
+        (flow R.tells (R.given report.old) (R.given report.new) (R.faults report.old) (R.faults report.new)) result }
+    ensures input_counted { I.faults input.old ≤ I.faults input.new }
+    ensures out_counted { O.faults out.old ≤ O.faults out.new }
+    ensures report_counted { R.faults report.old ≤ R.faults report.new }
+{
+    if descriptor.points.as_slice().is_empty() {
+        return Status::Descriptor {
+            cause: DescCause::NoPoints,
+        };
+    }
+    match DescribedCode::compile(rt, alloc, descriptor, asked.workers) {
+        Ok(described) => serve(rt, alloc, asked, &described, input, out, report, gate),
+        Err(CompileFault::NoMemory) => Status::NoMemory,
+        Err(CompileFault::NothingFree) => Status::Descriptor {
+            cause: DescCause::NothingFree,
+        },
+    }
 }
 
 // Carries out a command that is built.
-fn carry_out<D: Source, I: Source, O: Sink>(
+fn carry_out<X: Threads + Sync, D: Source, I: Source, O: Sink, R: Sink, G: Gate>(
+    rt: &X,
     alloc: Global,
-    command: Command,
+    asked: &Words,
     desc: &mut D,
     input: &mut I,
     out: &mut O,
+    report: &mut R,
+    gate: &G,
 ) -> Status
-    requires { has_command command ≡ true }
-    ensures ended { Ended command
+    requires built { has_command asked.now.command ≡ true }
+    requires some_workers { 1 ≤ asked.now.workers }
+    requires few_workers { asked.now.workers ≤ 64 }
+    ensures ended { Ended asked.now.command
         (flow D.tells (D.left desc.old) (D.left desc.new) (D.faults desc.old) (D.faults desc.new))
         (flow I.tells (I.left input.old) (I.left input.new) (I.faults input.old) (I.faults input.new))
-        (flow O.tells (O.given out.old) (O.given out.new) (O.faults out.old) (O.faults out.new)) result }
+        (flow O.tells (O.given out.old) (O.given out.new) (O.faults out.old) (O.faults out.new))
+        (flow R.tells (R.given report.old) (R.given report.new) (R.faults report.old) (R.faults report.new)) result }
     ensures desc_taken { IsTrue D.tells → length (D.left desc.old) ≤ length (D.left desc.new) + 1048577 }
     ensures desc_counted { D.faults desc.old ≤ D.faults desc.new }
     ensures input_counted { I.faults input.old ≤ I.faults input.new }
     ensures out_counted { O.faults out.old ≤ O.faults out.new }
+    ensures report_counted { R.faults report.old ≤ R.faults report.new }
 {
     let text = match read_text(alloc, desc) {
         Ok(text) => text,
         Err(TextFault::NoMemory) => return Status::NoMemory,
         Err(TextFault::Fault) => return Status::DescFault,
     };
-    let described = match read(alloc, &text) {
-        Ok(described) => described,
+    let descriptor = match read(alloc, &text) {
+        Ok(descriptor) => descriptor,
         Err(DescError::NoMemory) => return Status::NoMemory,
         Err(DescError::Refused { cause }) => return Status::Descriptor { cause },
     };
-    match command {
-        Command::Points => points(alloc, &described, out),
-        Command::Member => {
-            if described.points.as_slice().is_empty() {
-                return Status::Descriptor {
-                    cause: DescCause::NoPoints,
-                };
-            }
-            member(alloc, &described, input, out)
-        }
-        _ => unreachable!(),
+    match asked.command {
+        Command::Points => points(alloc, &descriptor, out),
+        _ => compile_and_serve(rt, alloc, asked, descriptor, input, out, report, gate),
     }
 }
 
+// Does what the words ask for; the line of the status is still to be told.
+fn obey<X: Threads + Sync, D: Source, I: Source, O: Sink, R: Sink, G: Gate>(
+    rt: &X,
+    alloc: Global,
+    words: &[String],
+    desc: &mut D,
+    input: &mut I,
+    out: &mut O,
+    report: &mut R,
+    gate: &G,
+) -> Status
+    ensures obeyed { Obeyed (map string_bytes words.now)
+        (flow D.tells (D.left desc.old) (D.left desc.new) (D.faults desc.old) (D.faults desc.new))
+        (flow I.tells (I.left input.old) (I.left input.new) (I.faults input.old) (I.faults input.new))
+        (flow O.tells (O.given out.old) (O.given out.new) (O.faults out.old) (O.faults out.new))
+        (flow R.tells (R.given report.old) (R.given report.new) (R.faults report.old) (R.faults report.new)) result }
+    ensures desc_taken { IsTrue D.tells → length (D.left desc.old) ≤ length (D.left desc.new) + 1048577 }
+    ensures desc_counted { D.faults desc.old ≤ D.faults desc.new }
+    ensures input_counted { I.faults input.old ≤ I.faults input.new }
+    ensures out_counted { O.faults out.old ≤ O.faults out.new }
+    ensures report_counted { R.faults report.old ≤ R.faults report.new }
+{
+    let Some(asked) = read_words(words) else {
+        return Status::Usage;
+    };
+    if !is_built(asked.command) {
+        return Status::Usage;
+    }
+    carry_out(rt, alloc, &asked, desc, input, out, report, gate)
+}
+
 /// Runs the program on the words of the command line (without the program's own name): it reads the descriptor from `desc`,
-/// the data of the command from `input`, writes the answer on `out`, and on `report` one line where the status has one. Each
-/// status comes as its clause says, over every source and sink.
+/// the data of the command from `input`, writes the answer on `out`, and on `report` what decoding tells and one line where
+/// the status has one. Each status comes as its clause says, over every source and sink.
 pub fn run<X: Threads + Sync, D: Source, I: Source, O: Sink, R: Sink, G: Gate>(
     rt: &X,
     alloc: Global,
@@ -83,36 +210,57 @@ pub fn run<X: Threads + Sync, D: Source, I: Source, O: Sink, R: Sink, G: Gate>(
     report: &mut R,
     gate: &G,
 ) -> Status
-    ensures usage { result ≡ Status.Usage ↔ ((w : Words) → IsAsked (map string_bytes words.now) w → ⊥) }
+    // the headline: encoding, repair, reading, completeness
+    ensures encode { (w : Words) → IsAsked (map string_bytes words.now) w → w.command ≡ Encode → result ≡ Status.Done → IsTrue D.tells → IsTrue I.tells →
+        HasImage
+        (flow D.tells (D.left desc.old) (D.left desc.new) (D.faults desc.old) (D.faults desc.new))
+        (flow I.tells (I.left input.old) (I.left input.new) (I.faults input.old) (I.faults input.new))
+        (flow O.tells (O.given out.old) (O.given out.new) (O.faults out.old) (O.faults out.new)) }
+    ensures repair { (w : Words) → IsAsked (map string_bytes words.now) w → w.command ≡ Decode →
+        IsRepair
+        (flow D.tells (D.left desc.old) (D.left desc.new) (D.faults desc.old) (D.faults desc.new))
+        (flow I.tells (I.left input.old) (I.left input.new) (I.faults input.old) (I.faults input.new))
+        (flow O.tells (O.given out.old) (O.given out.new) (O.faults out.old) (O.faults out.new))
+        (flow R.tells (R.given report.old) (R.given report.new) (R.faults report.old) (R.faults report.new)) result }
+    ensures reading { (w : Words) → IsAsked (map string_bytes words.now) w → w.command ≡ Decode → IsRead result → IsTrue D.tells → IsTrue I.tells →
+        ReadAs
+        (flow D.tells (D.left desc.old) (D.left desc.new) (D.faults desc.old) (D.faults desc.new))
+        (flow I.tells (I.left input.old) (I.left input.new) (I.faults input.old) (I.faults input.new))
+        (flow O.tells (O.given out.old) (O.given out.new) (O.faults out.old) (O.faults out.new))
+        (flow R.tells (R.given report.old) (R.given report.new) (R.faults report.old) (R.faults report.new)) result }
+    ensures complete { (w : Words) → IsAsked (map string_bytes words.now) w →
+        Completed w.command
+        (flow D.tells (D.left desc.old) (D.left desc.new) (D.faults desc.old) (D.faults desc.new))
+        (flow I.tells (I.left input.old) (I.left input.new) (I.faults input.old) (I.faults input.new))
+        (flow O.tells (O.given out.old) (O.given out.new) (O.faults out.old) (O.faults out.new))
+        (flow R.tells (R.given report.old) (R.given report.new) (R.faults report.old) (R.faults report.new)) result }
 
     // each status only by its cause
+    ensures usage { result ≡ Status.Usage ↔ ((w : Words) → IsAsked (map string_bytes words.now) w → ⊥) }
+    ensures descriptor { (w : Words) → IsAsked (map string_bytes words.now) w →
+        (cause : DescCause) → result ≡ Status.Descriptor cause → IsTrue D.tells → IsRefused w.command (meaning (D.left desc.old)) cause }
     ensures desc_fault { result ≡ Status.DescFault → Rose (D.faults desc.old) (D.faults desc.new) }
     ensures input_fault { result ≡ Status.InputFault → Rose (I.faults input.old) (I.faults input.new) }
     ensures out_fault { result ≡ Status.OutFault → Rose (O.faults out.old) (O.faults out.new) }
-    ensures descriptor { (w : Words) → IsAsked (map string_bytes words.now) w →
-        (cause : DescCause) → result ≡ Status.Descriptor cause → IsTrue D.tells → refusal_in w.command (meaning (D.left desc.old)) ≡ Some cause }
+    ensures report_fault { result ≡ Status.ReportFault → Rose (R.faults report.old) (R.faults report.new) }
 
-    // what the command says, by the descriptor and the input, with its text on out
-    ensures answer { (w : Words) → IsAsked (map string_bytes words.now) w → IsAnswer result → IsTrue D.tells → IsInputTold w.command I.tells →
+    // what the other commands say, by the descriptor and the input, with their text on out
+    ensures answer { (w : Words) → IsAsked (map string_bytes words.now) w → is_streamed w.command ≡ false → IsAnswer result → IsTrue D.tells → IsInputTold w.command I.tells →
         Answered w.command
-        (flow D.tells (D.left desc.old) (D.left desc.new) (D.faults desc.old) (D.faults desc.new))
-        (flow I.tells (I.left input.old) (I.left input.new) (I.faults input.old) (I.faults input.new))
-        (flow O.tells (O.given out.old) (O.given out.new) (O.faults out.old) (O.faults out.new)) result }
-    ensures complete { (w : Words) → IsAsked (map string_bytes words.now) w →
-        Completed w.command
         (flow D.tells (D.left desc.old) (D.left desc.new) (D.faults desc.old) (D.faults desc.new))
         (flow I.tells (I.left input.old) (I.left input.new) (I.faults input.old) (I.faults input.new))
         (flow O.tells (O.given out.old) (O.given out.new) (O.faults out.old) (O.faults out.new)) result }
 
     // what stands on out, on report and in the sources after a refusal
-    ensures front { (w : Words) → IsAsked (map string_bytes words.now) w → result ≡ Status.OutFault → IsTrue D.tells → IsInputTold w.command I.tells →
+    ensures front { (w : Words) → IsAsked (map string_bytes words.now) w → is_streamed w.command ≡ false → result ≡ Status.OutFault → IsTrue D.tells → IsInputTold w.command I.tells →
         GaveFront w.command
         (flow D.tells (D.left desc.old) (D.left desc.new) (D.faults desc.old) (D.faults desc.new))
         (flow I.tells (I.left input.old) (I.left input.new) (I.faults input.old) (I.faults input.new))
         (flow O.tells (O.given out.old) (O.given out.new) (O.faults out.old) (O.faults out.new)) }
-    ensures quiet { IsQuiet result → IsTrue O.tells → O.given out.new ≡ O.given out.old }
+    ensures quiet { (w : Words) → IsAsked (map string_bytes words.now) w → IsQuiet (is_streamed w.command) result → IsTrue O.tells → O.given out.new ≡ O.given out.old }
     ensures early { IsEarly result → IsTrue I.tells → I.left input.new ≡ I.left input.old }
-    ensures report { IsTrue R.tells → GaveOrFailed (R.given report.old) (R.given report.new) (R.faults report.old) (R.faults report.new) (line_of result) }
+    ensures report { ((w : Words) → IsAsked (map string_bytes words.now) w → w.command ≡ Decode → ⊥) → IsTrue R.tells →
+        GaveOrFailed (R.given report.old) (R.given report.new) (R.faults report.old) (R.faults report.new) (line_of result) }
     ensures desc_taken { IsTrue D.tells → length (D.left desc.old) ≤ length (D.left desc.new) + 1048577 }
 
     // counts of faults never fall
@@ -121,18 +269,7 @@ pub fn run<X: Threads + Sync, D: Source, I: Source, O: Sink, R: Sink, G: Gate>(
     ensures out_counted { O.faults out.old ≤ O.faults out.new }
     ensures report_counted { R.faults report.old ≤ R.faults report.new }
 {
-    let _ = rt;
-    let _ = gate;
-    let status = match read_words(words) {
-        None => Status::Usage,
-        Some(asked) => {
-            if is_built(asked.command) {
-                carry_out(alloc, asked.command, desc, input, out)
-            } else {
-                Status::Usage
-            }
-        }
-    };
+    let status = obey(rt, alloc, words, desc, input, out, report, gate);
     tell(report, &status);
     status
 }

@@ -1,12 +1,16 @@
-use Rattle.std.proofs.Common.{◌≡◌, ℕ, length, sym, ◌∙◌, ap, true, false, Bool, arith, IsTrue}
-use Rattle.agcode_top.proofs.RunLemmas.{points-at, member-at, read-means, has_points-from, not_empty}
+use Rattle.std.proofs.Common.{refl}
+use Rattle.command_words.specs.declared.words.Command.TheVariants.{Points}
+use Rattle.code_descriptor.specs.Views.{parts_of}
+use Rattle.agcode_top.specs.Flows.{Flow, flow}
+use Rattle.agcode_top.proofs.RunLemmas.{ended-at, ended-carried, carried-did, takes-all, read-means}
 use Rattle.agcode_top.proofs.top.carry_out.Goals as goal
 
 pub returns-in-Points-clause-ended : goal.returns-in-Points-clause-ended
 returns-in-Points-clause-ended g c =
-    points-at _ _ _ _ _ _ c.in-Points.is (λ told. read-means _ _ _ _ c.deref.ensures.value (c.in-Ok.ensures.text told) c.in-Ok-read.ensures.accepted) c.points.ensures.ended
-
-pub returns-in-Member-clause-ended : goal.returns-in-Member-clause-ended
-returns-in-Member-clause-ended g c =
-    member-at _ _ _ _ _ _ c.in-Member.is (λ told. read-means _ _ _ _ c.deref.ensures.value (c.in-Ok.ensures.text told) c.in-Ok-read.ensures.accepted)
-    (has_points-from _ (not_empty _ _ _ c.is_empty.ensures c.if-is_empty.false (ap length c.as_slice.ensures.value))) c.member.ensures.ended
+    let input : Flow = flow g.I.Source.tells (g.I.Source.left c.args.input.now) (g.I.Source.left c.args.input.now) (g.I.Source.faults c.args.input.now) (g.I.Source.faults c.args.input.now) in
+    let out : Flow = flow g.O.Sink.tells (g.O.Sink.given c.args.out.now) (g.O.Sink.given c.points.new.out) (g.O.Sink.faults c.args.out.now) (g.O.Sink.faults c.points.new.out) in
+    let report : Flow = flow g.R.Sink.tells (g.R.Sink.given c.args.report.now) (g.R.Sink.given c.args.report.now) (g.R.Sink.faults c.args.report.now) (g.R.Sink.faults c.args.report.now) in
+    ended-at _ Points _ input out report _ c.in-Points.is
+    (ended-carried Points (parts_of c.in-Ok-read.descriptor) _ input out report _
+    (λ told. read-means _ _ _ (parts_of c.in-Ok-read.descriptor) c.deref.ensures.value (c.in-Ok.ensures.text told) c.in-Ok-read.ensures.accepted)
+    (carried-did Points (parts_of c.in-Ok-read.descriptor) input out report _ (takes-all Points (parts_of c.in-Ok-read.descriptor) refl) (c.points.ensures.did input, λ told. refl)))

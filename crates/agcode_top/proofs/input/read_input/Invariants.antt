@@ -1,0 +1,13 @@
+use Rattle.std.proofs.Common.{◌≡◌, ◌+◌, ◌-◌, ◌≤◌, ◌++◌, length, IsTrue}
+use Rattle.agcode_top.proofs.input.read_input.Given as goal
+
+abbrev pub invariant-loop-piece : goal.invariant-loop-piece
+invariant-loop-piece g l = record {
+  read : IsTrue g.I.Source.tells → g.I.Source.left l.initial.input ≡ l.text.items ++ g.I.Source.left l.input;
+  few : length l.text.items ≤ l.limit + 4096;
+  wide : length l.piece ≡ 4096;
+  counted : g.I.Source.faults l.initial.input ≤ g.I.Source.faults l.input;
+}
+
+abbrev pub decreases-loop-piece : goal.decreases-loop-piece
+decreases-loop-piece g l = l.limit + 4096 + 4096 - length l.text.items

@@ -1,0 +1,94 @@
+//! All of the input.
+
+ghost use Rattle.std.specs.Prelude.{◌≡◌, ℕ, ◌+◌, ◌<◌, ◌≤◌, ◌++◌, length, IsTrue, IfOk, IfErr};
+ghost use Rattle.ag_io.specs.Counts.{Rose};
+ghost use Rattle.agcode_top.specs.Inputs.{IsInputFault, Took};
+
+use ag_io::{Filled, Source, fill};
+use std::alloc::{AllocError, Global};
+
+// The bytes that are read at a time.
+const PIECE: usize = 4096;
+
+/// Why an input was not read.
+#[derive(Clone, Copy, Debug, PartialEq, Eq)]
+pub enum InputFault {
+    NoMemory,
+    Fault,
+    /// More bytes than the limit were taken.
+    TooLong { taken: u64 },
+}
+
+impl From<AllocError> for InputFault {
+    ghost use Rattle.agcode_top.specs.declared.input.InputFault.TheVariants.{NoMemory};
+
+    ghost from_gives = { λ _ fault. fault ≡ NoMemory };
+
+    fn from(_: AllocError) -> InputFault {
+        InputFault::NoMemory
+    }
+}
+
+// What came after a piece.
+#[derive(Clone, Copy)]
+enum Tail {
+    More,
+    End,
+    Fault,
+}
+
+// Adds the next piece of the input to a text.
+fn take_piece<I: Source>(
+    text: &mut Vec<u8>,
+    piece: &mut [u8],
+    input: &mut I,
+) -> Result<Tail, AllocError>
+    requires { length piece.old ≡ 4096 }
+    ensures took { IfOk result (Took I.tells (I.left input.old) (I.left input.new) (I.faults input.old) (I.faults input.new) text.old.items text.new.items) }
+    ensures counted { I.faults input.old ≤ I.faults input.new }
+{
+    match fill(input, piece) {
+        Filled::Whole => {
+            text.extend_from_slice(piece)?;
+            Ok(Tail::More)
+        }
+        Filled::End { got } => {
+            text.extend_from_slice(&piece[..got])?;
+            Ok(Tail::End)
+        }
+        Filled::Fault { got } => {
+            text.extend_from_slice(&piece[..got])?;
+            Ok(Tail::Fault)
+        }
+    }
+}
+
+/// Reads all of the input, but no more than one piece beyond the limit.
+pub fn read_input<I: Source>(
+    alloc: Global,
+    limit: usize,
+    input: &mut I,
+) -> Result<Vec<u8>, InputFault>
+    requires { limit ≤ 1099511627776 }
+    ensures all { IfOk result (λ text. IsTrue I.tells → I.left input.old ≡ text.items) }
+    ensures within { IfOk result (λ text. length text.items ≤ limit) }
+    ensures fault { IfErr result (IsInputFault limit I.tells (I.left input.old) (I.faults input.old) (I.faults input.new)) }
+    ensures counted { I.faults input.old ≤ I.faults input.new }
+{
+    let mut text = Vec::new(alloc);
+    let mut piece = [0u8; PIECE];
+    while text.len() <= limit {
+        let tail = take_piece(&mut text, &mut piece, input)?;
+        if text.len() > limit {
+            break;
+        }
+        match tail {
+            Tail::More => {}
+            Tail::End => return Ok(text),
+            Tail::Fault => return Err(InputFault::Fault),
+        }
+    }
+    Err(InputFault::TooLong {
+        taken: text.len() as u64,
+    })
+}

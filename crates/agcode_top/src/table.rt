@@ -1,0 +1,29 @@
+//! The table of the order bound.
+
+ghost use Rattle.std.specs.Prelude.{◌≡◌, ℕ, ◌≤◌};
+ghost use Rattle.command_words.specs.declared.words.Command.TheVariants.{Bound};
+ghost use Rattle.code_descriptor.specs.Meaning.{Parts};
+ghost use Rattle.descriptor_code.specs.Codes.{IsDescribed};
+ghost use Rattle.agcode_top.specs.Flows.{Flow, flow};
+ghost use Rattle.agcode_top.specs.Runs.{PlainDid};
+
+use crate::status::Status;
+use crate::word::answer;
+use ag_io::Sink;
+use descriptor_code::DescribedCode;
+use order_bound::table_text;
+use std::alloc::Global;
+
+/// Writes the table of the order bound.
+pub fn table<O: Sink>(alloc: Global, described: &DescribedCode, out: &mut O) -> Status
+    requires { (p : Parts) × IsDescribed p described.now }
+    ensures did { (p : Parts) (input : Flow) → IsDescribed p described.now → PlainDid Bound p input
+        (flow O.tells (O.given out.old) (O.given out.new) (O.faults out.old) (O.faults out.new)) result }
+    ensures out_counted { O.faults out.old ≤ O.faults out.new }
+{
+    let code = &described.code;
+    match table_text(alloc, code.basis(), code.checked()) {
+        Ok(text) => answer(out, &text, Status::Done),
+        Err(_) => Status::NoMemory,
+    }
+}

@@ -1,0 +1,47 @@
+//! A word of the input, and a text of out.
+
+ghost use Rattle.std.specs.Prelude.{◌≡◌, ℕ, ◌≤◌, length, IsTrue, IfOk, IfErr};
+ghost use Rattle.agcode_top.specs.Flows.{flow};
+ghost use Rattle.agcode_top.specs.Steps.{IsWordFault, GaveText};
+
+use crate::status::Status;
+use ag_io::{Filled, Sink, Source, fill, put};
+use std::alloc::Global;
+
+/// Reads a word of n bytes, which is all of the input; else the status says why there is none.
+#[tactic(auto, using(crate::proofs::TextLemmas::word_steps))]
+pub fn read_word<I: Source>(alloc: Global, n: usize, input: &mut I) -> Result<Vec<u8>, Status>
+    requires { n ≤ 1024 }
+    ensures long { IfOk result (λ word. length word.items ≡ n) }
+    ensures word { IfOk result (λ word. IsTrue I.tells → I.left input.old ≡ word.items) }
+    ensures fault { IfErr result (IsWordFault n (flow I.tells (I.left input.old) (I.left input.new) (I.faults input.old) (I.faults input.new))) }
+    ensures counted { I.faults input.old ≤ I.faults input.new }
+{
+    let Ok(mut word) = vec![in alloc; 0u8; n + 1] else {
+        return Err(Status::NoMemory);
+    };
+    match fill(input, &mut word) {
+        Filled::Whole => Err(Status::WordLength {
+            taken: n as u32 + 1,
+        }),
+        Filled::End { got } => {
+            if got != n {
+                return Err(Status::WordLength { taken: got as u32 });
+            }
+            word.truncate(n);
+            Ok(word)
+        }
+        Filled::Fault { .. } => Err(Status::InputFault),
+    }
+}
+
+/// Writes a text, and answers the status, or that the output could not be written.
+pub fn answer<O: Sink>(out: &mut O, text: &[u8], status: Status) -> Status
+    ensures given { GaveText (flow O.tells (O.given out.old) (O.given out.new) (O.faults out.old) (O.faults out.new)) text.now status result }
+    ensures counted { O.faults out.old ≤ O.faults out.new }
+{
+    match put(out, text) {
+        Ok(()) => status,
+        Err(_) => Status::OutFault,
+    }
+}

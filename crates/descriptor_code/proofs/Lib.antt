@@ -1,0 +1,4 @@
+pub mod Plain
+pub mod OneCode
+pub mod ByMonomials
+pub mod Laws

@@ -1,0 +1,5 @@
+use Rattle.descriptor_code.proofs.Laws.{monomial_law}
+use Rattle.descriptor_code.proofs.codes_are_by_monomials.Goals as goal
+
+pub returns : goal.returns
+returns c = monomial_law
