@@ -1,5 +1,5 @@
 -- The checks by plain lists are the checks of the label lines
-use Rattle.std.proofs.Common.{◌≡◌, ◌≢◌, ℕ, zero, suc, ◌+◌, ◌-◌, ◌*◌, ◌^◌, ◌<◌, ◌≤◌, Bool, true, false, cond, Some, None, List, [], ◌∷◌, ◌++◌, length, take, drop, map, get_or, refl, ap, sym, ◌∙◌, subst, arith, inl, inr, All, count_by, length-drop}
+use Rattle.std.proofs.Common.{◌≡◌, ℕ, zero, suc, ◌+◌, ◌-◌, ◌*◌, ◌<◌, Bool, false, cond, List, [], ◌∷◌, ◌++◌, length, take, drop, map, get_or, refl, ap, sym, ◌∙◌, subst, arith, inl, inr, All, count_by}
 use Rattle.std.specs.Prelude.{slice_index}
 use Rattle.std.specs.List.{fold, flat_map, slice_range}
 use Rattle.std.proofs.Math.Seq.{drop-append-add}
@@ -12,7 +12,7 @@ use Rattle.linear_theory.specs.Linear.{dot}
 use Rattle.counting_theory.specs.Votes.{pairs}
 use Rattle.order_theory.specs.Codes.{marked}
 use Rattle.order_domain.specs.declared.Point.{Point}
-use Rattle.order_domain.specs.Domain.{Domain, IsOrderDomain}
+use Rattle.order_domain.specs.Domain.{Domain}
 use Rattle.order_domain.specs.Values.{value_at, sum_or_count}
 use Rattle.eval_basis.specs.declared.checked.CheckRule.{CheckRule}
 use Rattle.eval_basis.specs.Rules.{rule_checks}
@@ -21,7 +21,7 @@ use Rattle.order_bound.specs.declared.reader.Entries.{Entries}
 use Rattle.order_bound.specs.TableText.{Entry}
 use Rattle.order_bound.specs.TableForm.{IsForm}
 use Rattle.order_bound.specs.Reading.{AreColumns}
-use Rattle.order_bound.specs.Checking.{IsGrid, AreFunctions, IsIndexOf, AreIndices, IsLabelBy, product_of, IsDualBy, IsLeastFree, IsHeadBy}
+use Rattle.order_bound.specs.Checking.{IsGrid, AreFunctions, IsIndexOf, AreIndices, IsLabelBy, product_of, IsDualBy, IsHeadBy}
 use Rattle.order_bound.specs.TableChecks.{entry_at, IsIndex, IsGoodLabel, dual_product, IsGoodDual, AreGood, IsFirstBad, IsGoodHead}
 
 -- ---- dual lists in a row

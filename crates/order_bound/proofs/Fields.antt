@@ -1,10 +1,9 @@
 -- The fields of a line: what stands at a place, and that nothing else does
-use Rattle.std.proofs.Common.{lit<, ◌≡◌, ◌≢◌, ℕ, zero, suc, ◌+◌, ◌-◌, ◌^◌, ◌<◌, ◌≤◌, Bool, true, false, cond, Option, Some, None, List, [], ◌∷◌, ◌++◌, length, take, drop, refl, ap, sym, ◌∙◌, subst, arith, inl, inr, MatchOption, length-drop, get_or}
+use Rattle.std.proofs.Common.{lit<, ◌≡◌, ◌≢◌, ℕ, ◌+◌, ◌^◌, ◌<◌, ◌≤◌, Bool, true, false, Option, Some, None, List, [], ◌∷◌, ◌++◌, length, take, drop, refl, ap, sym, ◌∙◌, subst, arith, length-drop, get_or}
 use Rattle.std.specs.Prelude.{not, nat_eq, codes}
-use Rattle.std.specs.List.{list_all, flat_map, starts_with, position_or_len, slice_range}
+use Rattle.std.specs.List.{list_all, starts_with, position_or_len, slice_range}
 use Rattle.std.specs.Fmt.{decimal}
 use Rattle.std.proofs.lemmas.Bool.Decides.{nat_tests}
-use Rattle.std.proofs.lemmas.Bool.{cases_Bool}
 use Rattle.std.proofs.Common.{All, append_assoc, add-one, drop-cons}
 use Rattle.std.proofs.lemmas.Grind.{flat_map-append}
 use Rattle.std.proofs.lemmas.List.{take-append-drop, drop-drop, append-nil, length_push, drop_all}
@@ -12,8 +11,8 @@ use Rattle.std.proofs.lemmas.List.Elements.{All-append, All-nil, All-cons}
 use Rattle.ag_texts.specs.Numbers.{number_in}
 use Rattle.ag_texts.proofs.Numbers.{number_read_back, read_is_written}
 use Rattle.order_bound.specs.TableText.{mark_text}
-use Rattle.order_bound.specs.Reading.{symbols, entry_body, head_body, IsFieldEnd, IsWordAt, IsNumberAt, HasNoNumber, IsMarkAt, IsFront, AreSymbols}
-use Rattle.order_bound.proofs.Splits.{Stops, AreSame, split_once, same_rest, number_without, numbers_same, starts_yes, starts_itself, before_passes, rest_stops, pol-le}
+use Rattle.order_bound.specs.Reading.{symbols, entry_body, IsFieldEnd, IsWordAt, IsNumberAt, HasNoNumber, IsMarkAt, IsFront, AreSymbols}
+use Rattle.order_bound.proofs.Splits.{Stops, AreSame, split_once, same_rest, number_without, numbers_same, starts_yes, starts_itself, before_passes, rest_stops}
 
 -- ---- words
 pub word_stands : (text word : List ℕ) (at : ℕ) → at ≤ length text → starts_with nat_eq (drop at text) word ≡ true → IsWordAt text at word (at + length word)

@@ -3,7 +3,7 @@ use Rattle.std.proofs.Common.{◌≡◌, ℕ, ◌+◌, ◌<◌, ◌≤◌, Bool,
 use Rattle.std.proofs.lemmas.Bool.{cases_eq}
 use Rattle.std.specs.Option.{option_map_or}
 use Rattle.order_theory.specs.Basis.{Basis, pairs_at, IsSoundBasis, times}
-use Rattle.order_theory.specs.Codes.{marked, AreAllMarked, IsOrderBound, IsBound}
+use Rattle.order_theory.specs.Codes.{marked, AreAllMarked, IsOrderBound}
 use Rattle.order_theory.proofs.Theorems.{bound_law, near_law}
 use Rattle.order_bound.specs.Distance.{HasDistance}
 

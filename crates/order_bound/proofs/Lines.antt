@@ -1,10 +1,10 @@
 -- A table, line by line
-use Rattle.std.proofs.Common.{lit<, ◌≡◌, ◌≢◌, ℕ, zero, suc, ◌+◌, ◌-◌, ◌^◌, ◌<◌, ◌≤◌, Bool, true, false, Option, Some, None, List, [], ◌∷◌, ◌++◌, length, take, drop, map, get_or, refl, ap, sym, ◌∙◌, subst, arith, inl, inr, MatchOption, All, append_assoc, add-one, drop-cons, length-drop}
-use Rattle.std.specs.Prelude.{not, ◌&&◌, nat_eq, nat_lt, codes, option_map, position}
+use Rattle.std.proofs.Common.{lit<, ◌≡◌, ◌≢◌, ℕ, suc, ◌+◌, ◌-◌, ◌^◌, ◌<◌, ◌≤◌, Bool, true, false, Option, Some, None, List, [], ◌∷◌, ◌++◌, length, take, drop, get_or, refl, ap, sym, ◌∙◌, subst, arith, MatchOption, All, append_assoc, drop-cons, length-drop}
+use Rattle.std.specs.Prelude.{not, nat_eq, nat_lt, codes, option_map, position}
 use Rattle.std.specs.List.{list_all, flat_map, position_or_len, slice_range}
 use Rattle.std.specs.Fmt.{decimal}
 use Rattle.std.proofs.lemmas.Bool.Decides.{nat_tests}
-use Rattle.std.proofs.lemmas.Bool.{cases_Bool, and_parts, and_from}
+use Rattle.std.proofs.lemmas.Bool.{and_parts, and_from}
 use Rattle.std.proofs.lemmas.Grind.{flat_map-append}
 use Rattle.std.proofs.lemmas.List.{take-append-drop, drop-drop, append-nil, length_push, take_all, drop_all, map-append, flat_map_more}
 use Rattle.std.proofs.lemmas.List.Elements.{All-append, All-nil, All-cons}
@@ -16,7 +16,7 @@ use Rattle.order_bound.specs.TableForm.{IsForm, IsHead, AreLines, IsBadForm, no_
 use Rattle.order_bound.specs.declared.reader.Entries.{Entries}
 use Rattle.order_bound.specs.Reading.{symbols, entry_body, head_body, IsFieldEnd, IsFeedless, IsWordAt, IsNumberAt, HasNoNumber, IsNamedAt, HasNoNamed, IsLineAt, IsFront, AreSymbols, IsTop, AreColumns, IsEntryAdded, AreRead}
 use Rattle.order_bound.proofs.Pieces.{entry-pieces, head-pieces}
-use Rattle.order_bound.proofs.Splits.{AreSame, split_once, same_rest, number_without, before_passes, pol-le}
+use Rattle.order_bound.proofs.Splits.{AreSame, split_once, same_rest, number_without, before_passes}
 use Rattle.order_bound.proofs.Fields.{IsFollowed, fields_same}
 
 pub match_weaker : {A : Type 0} (r : Option A) (P P' : Type 0) (Q Q' : A → Type 0) → (P → P') → ((x : A) → Q x → Q' x) → MatchOption r P Q → MatchOption r P' Q'

@@ -1,5 +1,5 @@
 -- A text says one thing, so it is not both accepted and refused
-use Rattle.std.proofs.Common.{◌≡◌, ◌≢◌, ℕ, zero, suc, ◌+◌, ◌^◌, ◌<◌, ◌≤◌, Bool, true, false, List, [], ◌∷◌, ◌++◌, length, take, drop, map, get_or, refl, ap, sym, ◌∙◌, subst, arith, inl, inr, All, append_assoc}
+use Rattle.std.proofs.Common.{◌≡◌, ℕ, suc, ◌+◌, ◌^◌, ◌<◌, ◌≤◌, Bool, true, false, List, [], ◌∷◌, ◌++◌, length, refl, ap, sym, ◌∙◌, subst, arith, All, append_assoc}
 use Rattle.std.specs.Prelude.{codes}
 use Rattle.std.specs.List.{flat_map}
 use Rattle.std.specs.Fmt.{decimal}
@@ -14,7 +14,7 @@ use Rattle.order_bound.specs.TableText.{Entry, mark_text, title, head_line, entr
 use Rattle.std.proofs.Math.Pow.{pow_mono}
 use Rattle.order_bound.specs.TableForm.{IsForm, IsHead, AreLines, IsBadForm, no_title, no_head, no_entry, more_lines}
 use Rattle.order_bound.specs.Reading.{symbols, entry_body, head_body}
-use Rattle.order_bound.specs.TableChecks.{IsGoodLabel, IsGoodDual, AreGood, IsFirstBad, IsGoodHead, IsSaid, IsAccepted, IsRefused, bad_form, bad_label, bad_dual, bad_head}
+use Rattle.order_bound.specs.TableChecks.{IsGoodLabel, IsGoodDual, IsGoodHead, IsAccepted, IsRefused, bad_form, bad_label, bad_dual, bad_head}
 use Rattle.order_bound.proofs.Pieces.{entry-pieces, head-pieces}
 use Rattle.order_bound.proofs.Splits.{AreSame, same_rest}
 use Rattle.order_bound.proofs.Fields.{IsFollowed, fields_same, symbols_end, same_marks, marks_differ}

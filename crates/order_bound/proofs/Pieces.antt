@@ -1,14 +1,13 @@
 -- Lines as pieces in a row
-use Rattle.std.proofs.Common.{subst, ◌≡◌, ℕ, ◌+◌, Bool, List, [], ◌∷◌, ◌++◌, map, length, refl, ap, sym, ◌∙◌, arith, append_assoc}
+use Rattle.std.proofs.Common.{subst, ◌≡◌, ℕ, ◌+◌, Bool, List, [], ◌∷◌, ◌++◌, map, refl, ap, sym, ◌∙◌, arith, append_assoc}
 use Rattle.std.specs.Prelude.{codes}
 use Rattle.std.specs.Fmt.{decimal}
 use Rattle.std.specs.List.{flat_map, join_with_byte, range_with_len}
 use Rattle.std.proofs.lemmas.List.{append-nil, flat_map_more}
 use Rattle.std.proofs.lemmas.List.Folds.{flat_map-map}
 use Rattle.std.proofs.lemmas.List.FromFn.{map-range_with_len_more}
-use Rattle.order_theory.specs.Basis.{Basis}
 use Rattle.order_bound.specs.Reading.{symbols, entry_body, head_body}
-use Rattle.order_bound.specs.TableText.{Entry, title, head_line, mark_text, entry_line, entry_of}
+use Rattle.order_bound.specs.TableText.{Entry, title, head_line, mark_text, entry_line}
 
 join_fields : (x : List ℕ) (ys : List (List ℕ)) → join_with_byte 32 (x ∷ ys) ≡ x ++ flat_map (λ y. 32 ∷ y) ys
 join_fields x [] = sym (append-nil x)

@@ -1,16 +1,14 @@
 -- Where a list is cut at the first element that fails a test, it is cut in one way
-use Rattle.std.proofs.Common.{one-add, ◌≡◌, ◌≢◌, ℕ, zero, suc, ◌+◌, ◌-◌, ◌^◌, ◌<◌, ◌≤◌, Bool, true, false, cond, Option, Some, None, List, [], ◌∷◌, ◌++◌, length, take, drop, refl, ap, sym, ◌∙◌, subst, arith, inl, inr, MatchOption}
-use Rattle.std.specs.Prelude.{not, ◌&&◌, nat_eq, nat_lt, position, codes}
-use Rattle.std.specs.List.{list_all, flat_map, starts_with, position_or_len, slice_range}
+use Rattle.std.proofs.Common.{one-add, ◌≡◌, ℕ, ◌^◌, ◌<◌, ◌≤◌, Bool, true, false, Option, Some, None, List, [], ◌∷◌, ◌++◌, length, take, drop, refl, ap, sym, ◌∙◌, subst, arith, inl, inr}
+use Rattle.std.specs.Prelude.{not, nat_eq, nat_lt, position}
+use Rattle.std.specs.List.{list_all, starts_with, position_or_len}
 use Rattle.std.specs.Fmt.{decimal}
 use Rattle.std.specs.Str.{all_ascii_digits}
 use Rattle.std.specs.Char.{is_ascii_digit}
 use Rattle.std.proofs.lemmas.Bool.Decides.{nat_tests}
 use Rattle.std.proofs.lemmas.Bool.{and_parts, and_from, cases_Bool}
-use Rattle.std.proofs.lemmas.List.{append-nil, length-append}
-use Rattle.std.proofs.lemmas.List.Folds.{list_all-append}
 use Rattle.ag_texts.specs.Numbers.{number_in, is_number}
-use Rattle.ag_texts.proofs.Numbers.{number_read_back, read_is_written, number_text_from_test, number_in_other}
+use Rattle.ag_texts.proofs.Numbers.{number_read_back, number_text_from_test, number_in_other}
 
 -- a list that is empty or begins with an element that fails
 abbrev pub Stops : (ℕ → Bool) → List ℕ → Type 0

@@ -1,5 +1,5 @@
 -- The text that passes the checks is the table of the basis
-use Rattle.std.proofs.Common.{◌≡◌, ◌≢◌, ℕ, zero, suc, ◌+◌, ◌^◌, ◌<◌, ◌≤◌, ◌⊎◌, Bool, true, false, List, [], ◌∷◌, ◌++◌, length, map, get_or, refl, ap, sym, ◌∙◌, subst, arith, inl, inr, All, count_by, ◌-◌}
+use Rattle.std.proofs.Common.{◌≡◌, ◌≢◌, ℕ, zero, suc, ◌+◌, ◌^◌, ◌<◌, ◌≤◌, Bool, false, List, [], ◌∷◌, ◌++◌, length, map, get_or, refl, ap, sym, ◌∙◌, subst, arith, inl, inr, All, count_by, ◌-◌}
 use Rattle.std.specs.Prelude.{slice_index}
 use Rattle.std.specs.List.{range_with_len, flat_map}
 use Rattle.std.proofs.lemmas.Bool.{cases_eq, cases_lt}
@@ -15,7 +15,6 @@ use Rattle.linear_theory.proofs.Duals.{dot_comm}
 use Rattle.counting_theory.specs.Votes.{pairs}
 use Rattle.order_theory.specs.Basis.{Basis, IsWord, IsSoundBasis, times, rank_at, label, vector, dual, pairs_at}
 use Rattle.order_theory.specs.Codes.{marked, IsOrderBound}
-use Rattle.order_theory.specs.Errors.{syndrome}
 use Rattle.order_theory.specs.Domains.{IsOrdered}
 use Rattle.order_theory.proofs.Shape.{cases_value}
 use Rattle.order_theory.proofs.Known.{spanned_same}
@@ -30,7 +29,7 @@ use Rattle.eval_basis.specs.Rules.{rule_checks, checked_by}
 use Rattle.eval_basis.specs.Built.{IsBuilt}
 use Rattle.eval_basis.proofs.Marks.{marked-checked_by}
 use Rattle.order_bound.specs.TableText.{Entry, title, head_line, entry_line, entry_of, table_text, basis_table, IsTableOf}
-use Rattle.order_bound.specs.TableForm.{IsForm, IsHead, AreLines}
+use Rattle.order_bound.specs.TableForm.{IsForm, IsHead}
 use Rattle.order_bound.specs.TableChecks.{entry_at, IsIndex, IsGoodLabel, dual_product, IsGoodDual, AreGood, IsGoodHead, IsSaid, IsAccepted}
 use Rattle.order_bound.proofs.Counting.{pairs-le-count}
 use Rattle.order_bound.proofs.Conversions.{count_marks}

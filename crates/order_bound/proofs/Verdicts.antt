@@ -1,5 +1,5 @@
 -- What the checks by plain lists say of a text
-use Rattle.std.proofs.Common.{mul-le-mul_right, ◌≡◌, ℕ, suc, ◌+◌, ◌*◌, ◌^◌, ◌<◌, ◌≤◌, Bool, List, [], length, refl, ap, sym, ◌∙◌, subst, arith, All}
+use Rattle.std.proofs.Common.{mul-le-mul_right, ◌≡◌, ℕ, ◌+◌, ◌*◌, ◌^◌, ◌<◌, ◌≤◌, List, length, refl, ap, sym, ◌∙◌, subst, arith, All}
 use Rattle.std.specs.Prelude.{slice_index}
 use Rattle.order_domain.specs.declared.Point.{Point}
 use Rattle.order_domain.specs.Domain.{Domain}
@@ -10,9 +10,8 @@ use Rattle.order_bound.specs.declared.functions.Functions.{Functions}
 use Rattle.order_bound.specs.declared.reader.Entries.{Entries}
 use Rattle.order_bound.specs.declared.reader.Stop.{Stop}
 use Rattle.order_bound.specs.declared.reader.Stop.TheVariants.{NoMemory, Line}
-use Rattle.order_bound.specs.TableText.{Entry}
 use Rattle.order_bound.specs.TableForm.{IsBadForm}
-use Rattle.order_bound.specs.Reading.{AreRead, AreColumns, OnLine}
+use Rattle.order_bound.specs.Reading.{AreRead, OnLine}
 use Rattle.order_bound.specs.Checking.{IsGrid, AreFunctions, AreIndices, IsLabelBy, IsDualBy, IsHeadBy}
 use Rattle.order_bound.specs.TableChecks.{IsGoodLabel, IsGoodDual, AreGood, IsFirstBad, IsGoodHead, IsSaid, IsAccepted, IsRefused, bad_form, bad_label, bad_dual, bad_head}
 use Rattle.order_bound.proofs.Counting.{pairs-le-count}

@@ -10,7 +10,7 @@
 -- IsLeastFree     the least pairs of a line with no mark, if there is one
 -- IsHeadBy        the check of the second line, by these lists
 -- AreCounted      how often each index was the sum of a pair before pair (i, j)
-use Rattle.std.specs.Prelude.{◌≡◌, ◌≢◌, ℕ, suc, ◌+◌, ◌*◌, ◌^◌, ◌<◌, ◌≤◌, ◌==◌, Bool, true, false, List, length, count_by, slice_index, slice_index_or}
+use Rattle.std.specs.Prelude.{◌≡◌, ◌≢◌, ℕ, suc, ◌+◌, ◌*◌, ◌^◌, ◌<◌, ◌≤◌, ◌==◌, Bool, false, List, length, count_by, slice_index}
 use Rattle.std.specs.List.{slice_range}
 use Rattle.field_theory.specs.Sums.{total, one_if}
 use Rattle.gf_theory.specs.Field.{gf_mul}

@@ -1,4 +1,4 @@
-use Rattle.std.proofs.Common.{◌≡◌, List, Bool, ℕ, length, subst, sym}
+use Rattle.std.proofs.Common.{List, Bool, ℕ, length, subst, sym}
 use Rattle.order_bound.specs.Checking.{IsLeastFree}
 use Rattle.order_bound.proofs.checks.is_good_head.Goals as goal
 

@@ -1,5 +1,4 @@
-use Rattle.std.proofs.Common.{arith, ◌≡◌, ◌<◌, sym, ◌∙◌}
-use Rattle.std.specs.Prelude.{slice_index}
+use Rattle.std.proofs.Common.{arith, sym}
 use Rattle.order_bound.proofs.Counting.{count_fits, count_some, count_none, count_row_ends}
 use Rattle.order_bound.proofs.functions.count_row.Goals as goal
 use Rattle.order_bound.proofs.functions.count_row.Goals.{in-Some, in_default}

@@ -1,8 +1,7 @@
-use Rattle.std.proofs.Common.{rules, refl, Bool, true, false, ℕ, ◌≡◌, ◌∙◌, sym, arith, inl, inr, List, length, nat_eq, MatchBool, drop, All, ◌<◌, ◌≢◌, ap}
-use Rattle.std.proofs.lemmas.Bool.{cases_Bool}
+use Rattle.std.proofs.Common.{rules, refl, Bool, true, false, ℕ, ◌≡◌, arith, List, length, nat_eq, MatchBool, drop, All, ◌<◌, ◌≢◌}
 use Rattle.std.proofs.lemmas.Bool.Decides.{nat_tests}
 use Rattle.order_bound.specs.Reading.{AreSymbols, symbols}
-use Rattle.order_bound.proofs.Fields.{IsAdding, adding_starts, adding_more, adding_refused, adding_large, adding_ends, adding_longer}
+use Rattle.order_bound.proofs.Fields.{adding_starts, adding_more, adding_refused, adding_large, adding_ends, adding_longer}
 use Rattle.order_bound.proofs.reader.add_symbols.Goals as goal
 
 pub loop-init : goal.loop-init

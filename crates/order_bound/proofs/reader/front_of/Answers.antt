@@ -1,4 +1,3 @@
-use Rattle.std.proofs.Common.{◌∙◌, sym}
 use Rattle.order_bound.proofs.Fields.{no_word, no_label, no_pairs, no_mark, front_is}
 use Rattle.order_bound.proofs.reader.front_of.Goals as goal
 

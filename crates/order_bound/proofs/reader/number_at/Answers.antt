@@ -1,4 +1,4 @@
-use Rattle.std.proofs.Common.{◌∙◌, sym}
+use Rattle.std.proofs.Common.{sym}
 use Rattle.order_bound.proofs.Fields.{number_stands, number_absent}
 use Rattle.order_bound.proofs.reader.number_at.Goals as goal
 

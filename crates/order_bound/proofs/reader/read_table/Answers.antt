@@ -1,5 +1,5 @@
 use Rattle.std.proofs.Common.{rules, arith}
-use Rattle.order_bound.proofs.Lines.{entry_missing, entry_bad, entry_read, text_longer, text_read}
+use Rattle.order_bound.proofs.Lines.{entry_missing, entry_bad, entry_read, text_longer}
 use Rattle.order_bound.proofs.reader.read_table.Goals as goal
 
 pub returns-in_default : goal.returns-in_default

@@ -1,4 +1,4 @@
-use Rattle.std.proofs.Common.{rules, ◌≡◌, ◌++◌, ◌∙◌, ap, List, ℕ}
+use Rattle.std.proofs.Common.{◌++◌, ◌∙◌, ap, List, ℕ}
 use Rattle.order_bound.specs.TableText.{entry_of, entry_line}
 use Rattle.order_bound.proofs.Pieces.{entries_more}
 use Rattle.order_bound.proofs.writer.table_text.Goals as goal

@@ -1,4 +1,4 @@
-use Rattle.std.proofs.Common.{rules, ◌≡◌, ◌++◌, ◌∙◌}
+use Rattle.std.proofs.Common.{◌∙◌}
 use Rattle.order_bound.specs.TableText.{entry_of}
 use Rattle.std.proofs.lemmas.Result.{on_ok_weaker}
 use Rattle.order_bound.proofs.Pieces.{entry_steps}

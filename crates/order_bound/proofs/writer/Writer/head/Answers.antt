@@ -1,4 +1,3 @@
-use Rattle.std.proofs.Common.{rules, ◌≡◌, ◌++◌}
 use Rattle.std.proofs.lemmas.Result.{on_ok_weaker}
 use Rattle.order_bound.proofs.Pieces.{head_steps}
 use Rattle.order_bound.proofs.writer.Writer.head.Goals as goal
