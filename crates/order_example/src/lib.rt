@@ -3,8 +3,12 @@
 //! the definitions.
 #![tactic(auto)]
 
+mod points;
+
 ghost use Rattle.order_theory.specs.Basis.{IsSoundBasis};
 ghost use Rattle.order_example.specs.SmallCurve.{small_basis, SmallVotes, OtherVotes};
+
+pub use points::are_points;
 
 /// The basis of the small curve is sound.
 pub fn small_basis_is_sound()
@@ -16,3 +20,6 @@ pub fn small_errors_vote()
     ensures one_wrong { SmallVotes }
     ensures none_wrong { OtherVotes }
 {}
+
+#[cfg(test)]
+mod tests;
