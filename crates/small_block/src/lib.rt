@@ -172,3 +172,6 @@ fn low_bits(got: &[u8], word: &mut [u8])
         word[p] = got[p] % 4;
     }
 }
+
+#[cfg(test)]
+mod tests;
