@@ -1,10 +1,12 @@
 //! The code of the curve `y^2 + y = x^3` over GF(4) with its eight points, compiled and used: its words, verdicts and
-//! ledgers are compared with those that were worked by hand.
+//! ledgers are compared with those that were worked by hand, and its decoder with a search through all words.
 #![tactic(auto)]
 
 mod points;
 
 pub use points::are_points;
 
+#[cfg(test)]
+mod searched;
 #[cfg(test)]
 mod tests;

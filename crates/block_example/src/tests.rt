@@ -25,7 +25,7 @@ fn point(x: u8, y: u8) -> Point {
     Point { x, y, z: 0 }
 }
 
-fn points() -> [Point; 8] {
+pub fn points() -> [Point; 8] {
     [
         point(0, 0),
         point(0, 1),
@@ -38,10 +38,11 @@ fn points() -> [Point; 8] {
     ]
 }
 
-// What compiling the code answers where labels up to a weight are checked.
-fn compiled<X: Threads + Sync>(
+// What compiling the code at these points answers where labels up to a weight are checked.
+pub fn compiled_at<X: Threads + Sync>(
     rt: &X,
     alloc: Global,
+    points: &[Point],
     weight: u32,
 ) -> Option<Result<Code<PolyField>, CompileFault>> {
     let f = PolyField::new(2, 7)?;
@@ -50,12 +51,23 @@ fn compiled<X: Threads + Sync>(
         return None;
     }
     let dom = CabDomain::new(alloc, curve, 2).ok()?;
-    let points = points();
-    if f.bits() != dom.bits() || !are_points(&f, &dom, &points) {
+    if points.is_empty() || points.len() > 1024 {
+        return None;
+    }
+    if f.bits() != dom.bits() || !are_points(&f, &dom, points) {
         return None;
     }
     let rule = CheckRule::AtMost { weight };
-    Some(Code::compile(rt, alloc, f, &dom, &points, rule, 1))
+    Some(Code::compile(rt, alloc, f, &dom, points, rule, 1))
+}
+
+// What compiling the code at all points answers where labels up to a weight are checked.
+fn compiled<X: Threads + Sync>(
+    rt: &X,
+    alloc: Global,
+    weight: u32,
+) -> Option<Result<Code<PolyField>, CompileFault>> {
+    compiled_at(rt, alloc, &points(), weight)
 }
 
 // The code whose checked labels are 0, 2, 3, 4 and 5.
