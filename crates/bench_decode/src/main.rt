@@ -270,3 +270,90 @@ fn main(rt: HostRuntime) -> Result<()> {
     println!(rt; "{name} {changes} changes: {right} right, {wrong} wrong")?;
     Ok(())
 }
+
+#[cfg(test)]
+mod tests {
+    use super::*;
+
+    // A line of a ledger, as numbers.
+    fn numbers(line: &VoteLine) -> [u32; 4] {
+        [line.label, line.pairs, line.right, line.wrong]
+    }
+
+    // The answer on a word of the small code, and its ledger.
+    fn find<X: Threads + Sync>(
+        rt: &X,
+        alloc: Global,
+        got: &[u8],
+        err: &mut [u8],
+    ) -> Result<(Found, Vec<[u32; 4]>)> {
+        let sizes = Sizes::read("small").context("a code")?;
+        let field = PolyField::new(sizes.bits, sizes.modulus).context("irreducible")?;
+        let f = TableField::new(alloc, &field)?;
+        let basis = basis_of(rt, alloc, &f, sizes)?;
+        let rule = CheckRule::AtMost {
+            weight: sizes.weight,
+        };
+        let checked = Checked::new(alloc, &basis, rule)?;
+        free_member(&basis, &checked).context("all are checked")?;
+        ensure!(corrects(&basis, &checked, sizes.radius), "few pairs");
+        let size = basis.n() as usize;
+        ensure!(got.len() == size, "another length");
+        ensure!(err.len() == size, "another length");
+        let mut voter = Voter::new(alloc, &basis, &checked, sizes.radius)?;
+        let found = voter.find(&f, &basis, got, err);
+        let mut ledger = Vec::new(alloc);
+        for line in voter.ledger() {
+            ledger.push(numbers(line))?;
+        }
+        Ok((found, ledger))
+    }
+
+    const ALL_RIGHT: [[u32; 4]; 3] = [[6, 5, 5, 0], [7, 6, 6, 0], [9, 8, 8, 0]];
+
+    // Words, with the error of each and its ledger.
+    const NEAR: [([u8; 8], [u8; 8], [[u32; 4]; 3]); 7] = [
+        ([2, 0, 0, 2, 3, 1, 2, 0], [0; 8], ALL_RIGHT),
+        ([1, 0, 0, 1, 2, 3, 1, 0], [0; 8], ALL_RIGHT),
+        ([1, 2, 0, 3, 0, 3, 0, 3], [0; 8], ALL_RIGHT),
+        // one wrong vote loses
+        (
+            [2, 0, 1, 0, 3, 1, 2, 0],
+            [0, 0, 1, 2, 0, 0, 0, 0],
+            [[6, 5, 2, 1], [7, 6, 2, 0], [9, 8, 4, 0]],
+        ),
+        (
+            [2, 0, 0, 0, 3, 1, 255, 0],
+            [0, 0, 0, 2, 0, 0, 1, 0],
+            [[6, 5, 1, 0], [7, 6, 2, 0], [9, 8, 4, 0]],
+        ),
+        // high bits count for nothing
+        ([6, 0, 0, 2, 3, 1, 2, 0], [0; 8], ALL_RIGHT),
+        (
+            [6, 0, 0, 0, 3, 1, 255, 0],
+            [0, 0, 0, 2, 0, 0, 1, 0],
+            [[6, 5, 1, 0], [7, 6, 2, 0], [9, 8, 4, 0]],
+        ),
+    ];
+
+    #[test]
+    fn finds_errors_and_their_ledgers(rt: HostRuntime) {
+        for (got, expected, lines) in NEAR.iter() {
+            let mut err = [7; 8];
+            let (found, ledger) = find(&rt, rt.alloc(), got, &mut err).expect(&rt, "memory");
+            assert_eq!(rt; found, Found::Error);
+            assert_eq!(rt; &err, expected);
+            assert_eq!(rt; ledger.as_slice(), &lines[..]);
+        }
+    }
+
+    #[test]
+    fn finds_no_error_in_a_word_that_is_far(rt: HostRuntime) {
+        let mut err = [7; 8];
+        let got = [1, 1, 1, 0, 0, 0, 0, 0];
+        let (found, ledger) = find(&rt, rt.alloc(), &got, &mut err).expect(&rt, "memory");
+        assert_eq!(rt; found, Found::Far);
+        assert_eq!(rt; err, [0; 8]);
+        assert_eq!(rt; ledger.len(), 0);
+    }
+}
