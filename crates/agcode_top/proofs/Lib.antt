@@ -3,4 +3,4 @@ pub mod RunLemmas
 pub mod WordLemmas
 pub mod StreamLemmas
 pub mod AnswerLemmas
-pub mod Workers
+pub mod Ranges

@@ -21,29 +21,29 @@ use Rattle.stream_codec.specs.declared.decode.DecodeFault.TheVariants as decodin
 use Rattle.agcode_top.specs.declared.status.Status.{Status}
 use Rattle.agcode_top.specs.declared.status.Status.TheVariants.{Done, NotCodeword, Beyond, Ragged, Framing, TableRefused, WordLength, Usage, Descriptor, TooLong, DescFault, InputFault, OutFault, ReportFault, NoMemory}
 use Rattle.agcode_top.specs.Flows.{Flow, Untouched}
-use Rattle.agcode_top.specs.Commands.{is_built, IsAsked, has_points, takes_no_code, IsRefused, IsRefusedPart, Says, IsInputTold}
+use Rattle.agcode_top.specs.Commands.{has_points, takes_no_code, IsRefused, IsRefusedPart, Says, IsInputTold}
 use Rattle.agcode_top.specs.Steps.{GaveText}
 use Rattle.agcode_top.specs.Streams.{encode_status, decode_status}
 use Rattle.agcode_top.specs.Runs.{Said, PlainDid, Wanting, Did, Carried, Over, Ended}
 
 -- a text was written, or a front of it
-did-text : (command : Command) (p : Parts) (input out : Flow) (text : List ℕ) (status result : Status) → (IsInputTold command input.tells → Says command p input.before status text) →
-    ((IsInputTold command input.tells → Said command p input out status) → PlainDid command p input out status) → GaveText out text status result → PlainDid command p input out result
-did-text command p input out text status result says answers (inl h) =
-    subst (λ (s : Status). PlainDid command p input out s) (sym h.same) (answers (λ told. record { text = text; says = says told; given = h.given }))
-did-text command p input out text status result says answers (inr h) =
-    subst (λ (s : Status). PlainDid command p input out s) (sym h.stopped) (h.failed, λ told. record { status = status; text = text; says = says told; given = h.given })
+did-text : (ws : Words) (command : Command) (p : Parts) (input out : Flow) (text : List ℕ) (status result : Status) → (IsInputTold command input.tells → Says ws command p input.before status text) →
+    ((IsInputTold command input.tells → Said ws command p input out status) → PlainDid ws command p input out status) → GaveText out text status result → PlainDid ws command p input out result
+did-text ws command p input out text status result says answers (inl h) =
+    subst (λ (s : Status). PlainDid ws command p input out s) (sym h.same) (answers (λ told. record { text = text; says = says told; given = h.given }))
+did-text ws command p input out text status result says answers (inr h) =
+    subst (λ (s : Status). PlainDid ws command p input out s) (sym h.stopped) (h.failed, λ told. record { status = status; text = text; says = says told; given = h.given })
 
-pub did-done : (command : Command) (p : Parts) (input out : Flow) (text : List ℕ) (result : Status) → (IsInputTold command input.tells → Says command p input.before Done text) →
-    GaveText out text Done result → PlainDid command p input out result
-did-done command p input out text result says h = did-text command p input out text Done result says (λ s. s) h
+pub did-done : (ws : Words) (command : Command) (p : Parts) (input out : Flow) (text : List ℕ) (result : Status) → (IsInputTold command input.tells → Says ws command p input.before Done text) →
+    GaveText out text Done result → PlainDid ws command p input out result
+did-done ws command p input out text result says h = did-text ws command p input out text Done result says (λ s. s) h
 
-pub did-other : (command : Command) (p : Parts) (input out : Flow) (text : List ℕ) (result : Status) → (IsInputTold command input.tells → Says command p input.before NotCodeword text) →
-    GaveText out text NotCodeword result → PlainDid command p input out result
-did-other command p input out text result says h = did-text command p input out text NotCodeword result says (λ s. s) h
+pub did-other : (ws : Words) (command : Command) (p : Parts) (input out : Flow) (text : List ℕ) (result : Status) → (IsInputTold command input.tells → Says ws command p input.before NotCodeword text) →
+    GaveText out text NotCodeword result → PlainDid ws command p input out result
+did-other ws command p input out text result says h = did-text ws command p input out text NotCodeword result says (λ s. s) h
 
-pub did-at : (command x : Command) (p : Parts) (input out report : Flow) (status : Status) → command ≡ x → Did x p input out report status → Did command p input out report status
-did-at command x p input out report status e h = subst (λ (y : Command). Did y p input out report status) (sym e) h
+pub did-at : (ws : Words) (command x : Command) (p : Parts) (input out report : Flow) (status : Status) → command ≡ x → Did ws x p input out report status → Did ws command p input out report status
+did-at ws command x p input out report status e h = subst (λ (y : Command). Did ws y p input out report status) (sym e) h
 
 -- the statuses that a command's own work gives
 is_own : Status → Bool
@@ -85,96 +85,96 @@ not_own : (status other : Status) → is_own status ≡ false → status ≡ oth
 not_own status other f e t = let k : true ≡ false = sym t ∙ ap is_own (sym e) ∙ f in let z : ⊥ = cc in z
 
 -- no command ends so by its own work
-did-Usage : (command : Command) (p : Parts) (input out report : Flow) → Did command p input out report Usage → ⊥
+did-Usage : (ws : Words) (command : Command) (p : Parts) (input out report : Flow) → Did ws command p input out report Usage → ⊥
 unfolding is_own
-did-Usage Member p input out report h = h.0
-did-Usage Points p input out report h = h.0
-did-Usage Params p input out report h = h.0
-did-Usage Bound p input out report h = h.0
-did-Usage Check p input out report h = h.0
-did-Usage Encode p input out report h = not_own Usage (encode_status h.0.answer) refl h.0.status_is (encode_own h.0.answer)
-did-Usage Decode p input out report h = not_own Usage (decode_status h.answer) refl h.status_is (decode_own h.answer)
-did-Usage Votes p input out report h = h.0
-did-Usage Trial p input out report h = h.0
+did-Usage ws Member p input out report h = h.0
+did-Usage ws Points p input out report h = h.0
+did-Usage ws Params p input out report h = h.0
+did-Usage ws Bound p input out report h = h.0
+did-Usage ws Check p input out report h = h.0
+did-Usage ws Encode p input out report h = not_own Usage (encode_status h.0.answer) refl h.0.status_is (encode_own h.0.answer)
+did-Usage ws Decode p input out report h = not_own Usage (decode_status h.answer) refl h.status_is (decode_own h.answer)
+did-Usage ws Votes p input out report h = h.0
+did-Usage ws Trial p input out report h = h.0
 
-did-Descriptor : (command : Command) (cause : DescCause) (p : Parts) (input out report : Flow) → Did command p input out report (Descriptor cause) → ⊥
+did-Descriptor : (ws : Words) (command : Command) (cause : DescCause) (p : Parts) (input out report : Flow) → Did ws command p input out report (Descriptor cause) → ⊥
 unfolding is_own
-did-Descriptor Member cause p input out report h = h.0
-did-Descriptor Points cause p input out report h = h.0
-did-Descriptor Params cause p input out report h = h.0
-did-Descriptor Bound cause p input out report h = h.0
-did-Descriptor Check cause p input out report h = h.0
-did-Descriptor Encode cause p input out report h = not_own (Descriptor cause) (encode_status h.0.answer) refl h.0.status_is (encode_own h.0.answer)
-did-Descriptor Decode cause p input out report h = not_own (Descriptor cause) (decode_status h.answer) refl h.status_is (decode_own h.answer)
-did-Descriptor Votes cause p input out report h = h.0
-did-Descriptor Trial cause p input out report h = h.0
+did-Descriptor ws Member cause p input out report h = h.0
+did-Descriptor ws Points cause p input out report h = h.0
+did-Descriptor ws Params cause p input out report h = h.0
+did-Descriptor ws Bound cause p input out report h = h.0
+did-Descriptor ws Check cause p input out report h = h.0
+did-Descriptor ws Encode cause p input out report h = not_own (Descriptor cause) (encode_status h.0.answer) refl h.0.status_is (encode_own h.0.answer)
+did-Descriptor ws Decode cause p input out report h = not_own (Descriptor cause) (decode_status h.answer) refl h.status_is (decode_own h.answer)
+did-Descriptor ws Votes cause p input out report h = h.0
+did-Descriptor ws Trial cause p input out report h = h.0
 
-did-DescFault : (command : Command) (p : Parts) (input out report : Flow) → Did command p input out report DescFault → ⊥
+did-DescFault : (ws : Words) (command : Command) (p : Parts) (input out report : Flow) → Did ws command p input out report DescFault → ⊥
 unfolding is_own
-did-DescFault Member p input out report h = h.0
-did-DescFault Points p input out report h = h.0
-did-DescFault Params p input out report h = h.0
-did-DescFault Bound p input out report h = h.0
-did-DescFault Check p input out report h = h.0
-did-DescFault Encode p input out report h = not_own DescFault (encode_status h.0.answer) refl h.0.status_is (encode_own h.0.answer)
-did-DescFault Decode p input out report h = not_own DescFault (decode_status h.answer) refl h.status_is (decode_own h.answer)
-did-DescFault Votes p input out report h = h.0
-did-DescFault Trial p input out report h = h.0
+did-DescFault ws Member p input out report h = h.0
+did-DescFault ws Points p input out report h = h.0
+did-DescFault ws Params p input out report h = h.0
+did-DescFault ws Bound p input out report h = h.0
+did-DescFault ws Check p input out report h = h.0
+did-DescFault ws Encode p input out report h = not_own DescFault (encode_status h.0.answer) refl h.0.status_is (encode_own h.0.answer)
+did-DescFault ws Decode p input out report h = not_own DescFault (decode_status h.answer) refl h.status_is (decode_own h.answer)
+did-DescFault ws Votes p input out report h = h.0
+did-DescFault ws Trial p input out report h = h.0
 
-did-wanting : (command : Command) (p : Parts) (input out report : Flow) → Did command p input out report NoMemory → Wanting command input out report
-did-wanting Member p input out report h = h
-did-wanting Points p input out report h = h
-did-wanting Params p input out report h = h
-did-wanting Bound p input out report h = h
-did-wanting Check p input out report h = h
-did-wanting Encode p input out report h = (h.0.0, h.0.1, h.1)
-did-wanting Decode p input out report h = h
-did-wanting Votes p input out report h = h
-did-wanting Trial p input out report h = h
+did-wanting : (ws : Words) (command : Command) (p : Parts) (input out report : Flow) → Did ws command p input out report NoMemory → Wanting command input out report
+did-wanting ws Member p input out report h = h
+did-wanting ws Points p input out report h = h
+did-wanting ws Params p input out report h = h
+did-wanting ws Bound p input out report h = h
+did-wanting ws Check p input out report h = h
+did-wanting ws Encode p input out report h = (h.0.0, h.0.1, h.1)
+did-wanting ws Decode p input out report h = h
+did-wanting ws Votes p input out report h = h
+did-wanting ws Trial p input out report h = h
 
-pub carried-did : (command : Command) (p : Parts) (input out report : Flow) (status : Status) → ((cause : DescCause) → IsRefusedPart command p cause → ⊥) → Did command p input out report status →
-    Carried command p input out report status
-carried-did command p input out report Done a h = (a, h)
-carried-did command p input out report NotCodeword a h = (a, h)
-carried-did command p input out report (Beyond group word) a h = (a, h)
-carried-did command p input out report (Ragged extra) a h = (a, h)
-carried-did command p input out report Framing a h = (a, h)
-carried-did command p input out report (TableRefused line) a h = (a, h)
-carried-did command p input out report (WordLength taken) a h = (a, h)
-carried-did command p input out report Usage a h = (a, h)
-carried-did command p input out report (Descriptor cause) a h = absurd (did-Descriptor command cause p input out report h)
-carried-did command p input out report (TooLong taken) a h = (a, h)
-carried-did command p input out report DescFault a h = (a, h)
-carried-did command p input out report InputFault a h = (a, h)
-carried-did command p input out report OutFault a h = (a, h)
-carried-did command p input out report ReportFault a h = (a, h)
-carried-did command p input out report NoMemory a h = did-wanting command p input out report h
+pub carried-did : (ws : Words) (command : Command) (p : Parts) (input out report : Flow) (status : Status) → ((cause : DescCause) → IsRefusedPart command p cause → ⊥) → Did ws command p input out report status →
+    Carried ws command p input out report status
+carried-did ws command p input out report Done a h = (a, h)
+carried-did ws command p input out report NotCodeword a h = (a, h)
+carried-did ws command p input out report (Beyond group word) a h = (a, h)
+carried-did ws command p input out report (Ragged extra) a h = (a, h)
+carried-did ws command p input out report Framing a h = (a, h)
+carried-did ws command p input out report (TableRefused line) a h = (a, h)
+carried-did ws command p input out report (WordLength taken) a h = (a, h)
+carried-did ws command p input out report Usage a h = (a, h)
+carried-did ws command p input out report (Descriptor cause) a h = absurd (did-Descriptor ws command cause p input out report h)
+carried-did ws command p input out report (TooLong taken) a h = (a, h)
+carried-did ws command p input out report DescFault a h = (a, h)
+carried-did ws command p input out report InputFault a h = (a, h)
+carried-did ws command p input out report OutFault a h = (a, h)
+carried-did ws command p input out report ReportFault a h = (a, h)
+carried-did ws command p input out report NoMemory a h = did-wanting ws command p input out report h
 
 -- over a descriptor that is accepted
-over : (command : Command) (p : Parts) (desc input out report : Flow) (status : Status) → (IsTrue desc.tells → meaning desc.before ≡ describes p) → ((cause : DescCause) → IsRefusedPart command p cause → ⊥) →
-    Did command p input out report status → Over command desc input out report status
-over command p desc input out report status read a h = record { parts = p; accepted = λ told. record { described = read told; accepted = a }; did = h }
+over : (ws : Words) (command : Command) (p : Parts) (desc input out report : Flow) (status : Status) → (IsTrue desc.tells → meaning desc.before ≡ describes p) → ((cause : DescCause) → IsRefusedPart command p cause → ⊥) →
+    Did ws command p input out report status → Over ws command desc input out report status
+over ws command p desc input out report status read a h = record { parts = p; accepted = λ told. record { described = read told; accepted = a }; did = h }
 
 refused-by : (command : Command) (text : List ℕ) (p : Parts) (cause : DescCause) → meaning text ≡ describes p → IsRefusedPart command p cause → IsRefused command (meaning text) cause
 refused-by command text p cause e h = subst (λ (m : Meaning). IsRefused command m cause) (sym e) h
 
-pub ended-carried : (command : Command) (p : Parts) (desc input out report : Flow) (status : Status) → (IsTrue desc.tells → meaning desc.before ≡ describes p) → Carried command p input out report status →
-    Ended command desc input out report status
-ended-carried command p desc input out report Done read h = over command p desc input out report Done read h.0 h.1
-ended-carried command p desc input out report NotCodeword read h = over command p desc input out report NotCodeword read h.0 h.1
-ended-carried command p desc input out report (Beyond group word) read h = over command p desc input out report (Beyond group word) read h.0 h.1
-ended-carried command p desc input out report (Ragged extra) read h = over command p desc input out report (Ragged extra) read h.0 h.1
-ended-carried command p desc input out report Framing read h = over command p desc input out report Framing read h.0 h.1
-ended-carried command p desc input out report (TableRefused line) read h = over command p desc input out report (TableRefused line) read h.0 h.1
-ended-carried command p desc input out report (WordLength taken) read h = over command p desc input out report (WordLength taken) read h.0 h.1
-ended-carried command p desc input out report Usage read h = absurd (did-Usage command p input out report h.1)
-ended-carried command p desc input out report (Descriptor cause) read h = (λ told. refused-by command desc.before p cause (read told) h.0, h.1, h.2, h.3)
-ended-carried command p desc input out report (TooLong taken) read h = over command p desc input out report (TooLong taken) read h.0 h.1
-ended-carried command p desc input out report DescFault read h = absurd (did-DescFault command p input out report h.1)
-ended-carried command p desc input out report InputFault read h = over command p desc input out report InputFault read h.0 h.1
-ended-carried command p desc input out report OutFault read h = over command p desc input out report OutFault read h.0 h.1
-ended-carried command p desc input out report ReportFault read h = over command p desc input out report ReportFault read h.0 h.1
-ended-carried command p desc input out report NoMemory read h = h
+pub ended-carried : (ws : Words) (command : Command) (p : Parts) (desc input out report : Flow) (status : Status) → (IsTrue desc.tells → meaning desc.before ≡ describes p) → Carried ws command p input out report status →
+    Ended ws command desc input out report status
+ended-carried ws command p desc input out report Done read h = over ws command p desc input out report Done read h.0 h.1
+ended-carried ws command p desc input out report NotCodeword read h = over ws command p desc input out report NotCodeword read h.0 h.1
+ended-carried ws command p desc input out report (Beyond group word) read h = over ws command p desc input out report (Beyond group word) read h.0 h.1
+ended-carried ws command p desc input out report (Ragged extra) read h = over ws command p desc input out report (Ragged extra) read h.0 h.1
+ended-carried ws command p desc input out report Framing read h = over ws command p desc input out report Framing read h.0 h.1
+ended-carried ws command p desc input out report (TableRefused line) read h = over ws command p desc input out report (TableRefused line) read h.0 h.1
+ended-carried ws command p desc input out report (WordLength taken) read h = over ws command p desc input out report (WordLength taken) read h.0 h.1
+ended-carried ws command p desc input out report Usage read h = absurd (did-Usage ws command p input out report h.1)
+ended-carried ws command p desc input out report (Descriptor cause) read h = (λ told. refused-by command desc.before p cause (read told) h.0, h.1, h.2, h.3)
+ended-carried ws command p desc input out report (TooLong taken) read h = over ws command p desc input out report (TooLong taken) read h.0 h.1
+ended-carried ws command p desc input out report DescFault read h = absurd (did-DescFault ws command p input out report h.1)
+ended-carried ws command p desc input out report InputFault read h = over ws command p desc input out report InputFault read h.0 h.1
+ended-carried ws command p desc input out report OutFault read h = over ws command p desc input out report OutFault read h.0 h.1
+ended-carried ws command p desc input out report ReportFault read h = over ws command p desc input out report ReportFault read h.0 h.1
+ended-carried ws command p desc input out report NoMemory read h = h
 
 pub has_points-from : (ps : List Point) → length ps ≢ 0 → has_points ps ≡ true
 has_points-from [] h = absurd (h refl)
@@ -218,19 +218,13 @@ pub read-means : (before bytes text : List ℕ) (p : Parts) → text ≡ bytes �
 read-means before bytes text p e m d = sym m ∙ ap meaning (sym e) ∙ d
 
 -- how a command ended, for each reading of the words
-pub ended-for : (texts : List (List ℕ)) (asked w : Words) (desc input out report : Flow) (result : Status) → IsCommandLine texts asked → Ended asked.command desc input out report result → IsAsked texts w →
-    Ended w.command desc input out report result
+pub ended-for : (texts : List (List ℕ)) (asked w : Words) (desc input out report : Flow) (result : Status) → IsCommandLine texts asked → Ended asked asked.command desc input out report result → IsCommandLine texts w →
+    Ended w w.command desc input out report result
 ended-for texts asked w desc input out report result line h k =
-    subst (λ (x : Words). Ended x.command desc input out report result) (line-says texts asked w line k.line) h
+    subst (λ (x : Words). Ended x x.command desc input out report result) (line-says texts asked w line k) h
 
-pub not_built : (texts : List (List ℕ)) (asked w : Words) → IsCommandLine texts asked → is_built asked.command ≡ false → IsAsked texts w → ⊥
-not_built texts asked w line h k =
-    let e : asked ≡ w = line-says texts asked w line k.line in
-    let z : false ≡ true = sym h ∙ ap (λ (x : Words). is_built x.command) e ∙ k.built in
-    let r : ⊥ = cc in r
-
-pub not_usage : (command : Command) (desc input out report : Flow) (result : Status) → Ended command desc input out report result → result ≡ Usage → ⊥
-not_usage command desc input out report result h e = subst (λ (s : Status). Ended command desc input out report s) e h
+pub not_usage : (ws : Words) (command : Command) (desc input out report : Flow) (result : Status) → Ended ws command desc input out report result → result ≡ Usage → ⊥
+not_usage ws command desc input out report result h e = subst (λ (s : Status). Ended ws command desc input out report s) e h
 
 pub not_empty : (n : ℕ) (b : Bool) (length_is : ℕ) → b ≡ (n == 0) → b ≡ false → n ≡ length_is → length_is ≡ 0 → ⊥
 not_empty n b l e f g h = absurd (let k : n ≡ 0 = g ∙ h in grind (arith, common_steps, nat_tests))
@@ -250,5 +244,5 @@ wanting Trial input out report i o r = (o, r)
 pub refused-text : (command : Command) (before bytes text : List ℕ) (cause : DescCause) → text ≡ bytes → meaning bytes ≡ meaning before → meaning text ≡ refused cause → IsRefused command (meaning before) cause
 refused-text command before bytes text cause e m d = subst (λ (x : Meaning). IsRefused command x cause) (sym (sym m ∙ ap meaning (sym e) ∙ d)) refl
 
-pub ended-at : (command x : Command) (desc input out report : Flow) (status : Status) → command ≡ x → Ended x desc input out report status → Ended command desc input out report status
-ended-at command x desc input out report status e h = subst (λ (y : Command). Ended y desc input out report status) (sym e) h
+pub ended-at : (ws : Words) (command x : Command) (desc input out report : Flow) (status : Status) → command ≡ x → Ended ws x desc input out report status → Ended ws command desc input out report status
+ended-at ws command x desc input out report status e h = subst (λ (y : Command). Ended ws y desc input out report status) (sym e) h

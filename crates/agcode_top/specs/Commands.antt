@@ -1,5 +1,3 @@
--- is_built           whether the program has a command
--- IsAsked            words are a command line of a command that is built
 -- takes_no_code      whether a command serves a curve without a code of it
 -- has_points         whether a list of points is not empty
 -- IsRefused          a command refuses what a descriptor's text means, for this cause
@@ -12,11 +10,13 @@
 -- RefusesTable       an input is not that table, and this is the first line at which a check fails
 -- HasVotes           a text is the ledger of the error that leads an input to the codeword near it
 -- IsFar              no codeword is near an input
+-- HasTrial           a text tells of a trial of the code, with the seed and the number of bytes that were asked for
 -- points_text        all points of a curve, a line each
 -- SaysMember         how member ends, with its text on out
 -- SaysCheck          the same of check
 -- SaysVotes          the same of votes
--- Says               how a command ends, with its text on out, by the parts of the descriptor and the bytes of the input
+-- Says               how a command ends, with its text on out, by the words, the parts of the descriptor and the bytes of the
+--                    input
 -- IsNearCode         an input of n bytes that a codeword is near
 -- IsRefusedPart      .. or refuses what it describes
 use Rattle.std.specs.Prelude.{◌≡◌, ◌≢◌, ℕ, ◌+◌, ◌<◌, ◌≤◌, min, Bool, true, false, List, [], length, codes, IsTrue}
@@ -34,32 +34,17 @@ use Rattle.order_bound.specs.TableText.{IsTableOf, basis_table}
 use Rattle.order_bound.specs.TableChecks.{IsRefused as IsRefusedText}
 use Rattle.block_code.specs.Compiled.{Compiled}
 use Rattle.command_words.specs.declared.words.Command.{Command}
-use Rattle.command_words.specs.declared.words.Command.TheVariants.{Member, Points, Params, Bound, Check, Encode, Decode, Votes}
+use Rattle.command_words.specs.declared.words.Command.TheVariants.{Member, Points, Params, Bound, Check, Votes, Trial}
 use Rattle.command_words.specs.declared.words.Words.{Words}
-use Rattle.command_words.specs.Lines.{IsCommandLine}
 use Rattle.code_descriptor.specs.declared.DescCause.{DescCause}
 use Rattle.code_descriptor.specs.declared.DescCause.TheVariants.{NoPoints, NothingFree}
 use Rattle.code_descriptor.specs.Meaning.{Parts, Meaning, meaning, refused, describes}
-use Rattle.descriptor_code.specs.Codes.{curve_of, domain_of, rule_of, IsFull, IsCodeOf}
+use Rattle.descriptor_code.specs.Codes.{curve_of, domain_of, rule_of, IsFull, IsCodeOf, form_of_parts}
 use Rattle.descriptor_code.specs.Monomials.{IsCodeword, code_data}
 use Rattle.code_texts.specs.Texts.{params_text_of, votes_text_of}
+use Rattle.code_trial.specs.Trials.{trial_text_of}
 use Rattle.agcode_top.specs.declared.status.Status.{Status}
 use Rattle.agcode_top.specs.declared.status.Status.TheVariants.{Done, NotCodeword, WordLength, Beyond, TableRefused, TooLong}
-
-abbrev pub is_built : Command → Bool
-is_built Member = true
-is_built Points = true
-is_built Params = true
-is_built Bound = true
-is_built Check = true
-is_built Encode = true
-is_built Decode = true
-is_built Votes = true
-is_built _ = false
-
-pub record IsAsked (texts : List (List ℕ)) (w : Words) : Type 0 where
-  pub line : IsCommandLine texts w
-  pub built : is_built w.command ≡ true
 
 abbrev pub takes_no_code : Command → Bool
 takes_no_code Points = true
@@ -86,6 +71,7 @@ abbrev pub IsInputTold : Command → Bool → Type 0
 IsInputTold Points tells = Unit {0}
 IsInputTold Params tells = Unit {0}
 IsInputTold Bound tells = Unit {0}
+IsInputTold Trial tells = Unit {0}
 IsInputTold _ tells = IsTrue tells
 
 pub record IsNoWord (p : Parts) (input : List ℕ) (taken : ℕ) : Type 0 where
@@ -133,6 +119,11 @@ pub record IsFar (p : Parts) (input : List ℕ) : Type 0 where
   pub is_code : IsCodeOf p code
   pub none : (word : List ℕ) → IsNear (times code.basis) code.basis code.marks code.radius input word → ⊥
 
+pub record HasTrial (p : Parts) (asked : Words) (text : List ℕ) : Type 0 where
+  pub code : Compiled
+  pub is_code : IsCodeOf p code
+  pub text_is : text ≡ trial_text_of (form_of_parts p code) code.radius asked.seed asked.bytes
+
 abbrev pub SaysMember : Parts → List ℕ → Status → List ℕ → Type 0
 SaysMember p input Done text = IsCodeword (code_data p) input × (text ≡ plain_line_of (codes "codeword"))
 SaysMember p input NotCodeword text = (length input ≡ length p.points) × (IsCodeword (code_data p) input → ⊥) × (text ≡ plain_line_of (codes "not a codeword"))
@@ -151,14 +142,15 @@ SaysVotes p input (Beyond group word) text = (group ≡ 0) × (word ≡ 0) × (l
 SaysVotes p input (WordLength taken) text = IsNoWord p input taken × (text ≡ [])
 SaysVotes p input _ text = ⊥
 
-abbrev pub Says : Command → Parts → List ℕ → Status → List ℕ → Type 0
-Says Member p input status text = SaysMember p input status text
-Says Points p input status text = (status ≡ Done) × (text ≡ points_text p)
-Says Params p input status text = (status ≡ Done) × HasParameters p text
-Says Bound p input status text = (status ≡ Done) × HasTable p text
-Says Check p input status text = SaysCheck p input status text
-Says Votes p input status text = SaysVotes p input status text
-Says _ p input status text = ⊥
+abbrev pub Says : Words → Command → Parts → List ℕ → Status → List ℕ → Type 0
+Says asked Member p input status text = SaysMember p input status text
+Says asked Points p input status text = (status ≡ Done) × (text ≡ points_text p)
+Says asked Params p input status text = (status ≡ Done) × HasParameters p text
+Says asked Bound p input status text = (status ≡ Done) × HasTable p text
+Says asked Check p input status text = SaysCheck p input status text
+Says asked Votes p input status text = SaysVotes p input status text
+Says asked Trial p input status text = (status ≡ Done) × HasTrial p asked text
+Says asked _ p input status text = ⊥
 
 -- a word of n bytes that a codeword is near
 pub record IsNearCode (p : Parts) (input : List ℕ) : Type 0 where

@@ -21,7 +21,8 @@ use Rattle.stored_form.specs.Frame.{IsFile, image}
 use Rattle.stored_form.specs.Reading.{Reading, Beyond as ReadBeyond, Ragged as ReadRagged, Framing as ReadFraming, File, group_count, blocks, reading, out as output, IsNearImage, differences}
 use Rattle.stream_codec.specs.Report.{lines_of, lines, done}
 use Rattle.command_words.specs.declared.words.Command.{Command}
-use Rattle.command_words.specs.declared.words.Command.TheVariants.{Member, Points, Params, Bound, Check, Encode, Decode, Votes}
+use Rattle.command_words.specs.declared.words.Command.TheVariants.{Member, Points, Params, Bound, Check, Encode, Decode, Votes, Trial}
+use Rattle.command_words.specs.declared.words.Words.{Words}
 use Rattle.order_bound.specs.TableText.{IsTableOf}
 use Rattle.block_code.specs.Compiled.{Compiled}
 use Rattle.code_descriptor.specs.Meaning.{Parts}
@@ -35,15 +36,15 @@ use Rattle.agcode_top.specs.Commands.{Accepts, IsInputTold, IsNearCode}
 use Rattle.agcode_top.specs.Streams.{most}
 use Rattle.agcode_top.specs.Runs.{Said, SaidFront}
 
-pub record Answered (command : Command) (desc input out : Flow) (status : Status) : Type 0 where
+pub record Answered (asked : Words) (desc input out : Flow) (status : Status) : Type 0 where
   pub parts : Parts
-  pub accepted : Accepts command desc.before parts
-  pub said : Said command parts input out status
+  pub accepted : Accepts asked.command desc.before parts
+  pub said : Said asked asked.command parts input out status
 
-pub record GaveFront (command : Command) (desc input out : Flow) : Type 0 where
+pub record GaveFront (asked : Words) (desc input out : Flow) : Type 0 where
   pub parts : Parts
-  pub accepted : Accepts command desc.before parts
-  pub said : SaidFront command parts input out
+  pub accepted : Accepts asked.command desc.before parts
+  pub said : SaidFront asked asked.command parts input out
 
 pub record HasImage (desc input out : Flow) : Type 0 where
   pub parts : Parts
@@ -106,7 +107,7 @@ IsValid Check p input = IsTableText p input
 IsValid Encode p input = length input ≤ most
 IsValid Decode p input = IsFileText p input
 IsValid Votes p input = IsNearCode p input
-IsValid _ p input = ⊥
+IsValid Trial p input = Unit {0}
 
 abbrev pub Completed : Command → Flow → Flow → Flow → Flow → Status → Type 0
 Completed command desc input out report status =

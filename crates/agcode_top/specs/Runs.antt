@@ -20,12 +20,13 @@ use Rattle.std.specs.Prelude.{◌≡◌, ℕ, List, ◌++◌, IsTrue, Bool, true
 use Rattle.command_words.specs.declared.words.Command.{Command}
 use Rattle.command_words.specs.declared.words.Command.TheVariants.{Encode, Decode}
 use Rattle.command_words.specs.declared.words.Words.{Words}
+use Rattle.command_words.specs.Lines.{IsCommandLine}
 use Rattle.code_descriptor.specs.declared.DescCause.{DescCause}
 use Rattle.code_descriptor.specs.Meaning.{Parts, meaning}
 use Rattle.agcode_top.specs.declared.status.Status.{Status}
 use Rattle.agcode_top.specs.declared.status.Status.TheVariants.{Done, NotCodeword, Beyond, TableRefused, WordLength, Usage, Descriptor, TooLong, DescFault, InputFault, OutFault, NoMemory}
 use Rattle.agcode_top.specs.Flows.{Flow, Untouched, Failed, GavePart}
-use Rattle.agcode_top.specs.Commands.{IsAsked, IsRefused, IsRefusedPart, Accepts, IsInputTold, Says}
+use Rattle.agcode_top.specs.Commands.{IsRefused, IsRefusedPart, Accepts, IsInputTold, Says}
 use Rattle.agcode_top.specs.Streams.{Encoded, Decoded}
 
 abbrev pub IsAnswer : Status → Type 0
@@ -60,28 +61,28 @@ IsQuiet false (TooLong taken) = Unit {0}
 IsQuiet false InputFault = Unit {0}
 IsQuiet streamed _ = ⊥
 
-pub record Said (command : Command) (p : Parts) (input out : Flow) (status : Status) : Type 0 where
+pub record Said (asked : Words) (command : Command) (p : Parts) (input out : Flow) (status : Status) : Type 0 where
   pub text : List ℕ
-  pub says : Says command p input.before status text
+  pub says : Says asked command p input.before status text
   pub given : IsTrue out.tells → out.after ≡ out.before ++ text
 
-pub record SaidFront (command : Command) (p : Parts) (input out : Flow) : Type 0 where
+pub record SaidFront (asked : Words) (command : Command) (p : Parts) (input out : Flow) : Type 0 where
   pub status : Status
   pub text : List ℕ
-  pub says : Says command p input.before status text
+  pub says : Says asked command p input.before status text
   pub given : IsTrue out.tells → GavePart out.before out.after text
 
-abbrev pub PlainDid : Command → Parts → Flow → Flow → Status → Type 0
-PlainDid command p input out Done = IsInputTold command input.tells → Said command p input out Done
-PlainDid command p input out NotCodeword = IsInputTold command input.tells → Said command p input out NotCodeword
-PlainDid command p input out (Beyond group word) = (IsInputTold command input.tells → Said command p input out (Beyond group word)) × Untouched out
-PlainDid command p input out (TableRefused line) = (IsInputTold command input.tells → Said command p input out (TableRefused line)) × Untouched out
-PlainDid command p input out (WordLength taken) = (IsInputTold command input.tells → Said command p input out (WordLength taken)) × Untouched out
-PlainDid command p input out (TooLong taken) = (IsInputTold command input.tells → Said command p input out (TooLong taken)) × Untouched out
-PlainDid command p input out InputFault = Failed input × Untouched out
-PlainDid command p input out OutFault = Failed out × (IsInputTold command input.tells → SaidFront command p input out)
-PlainDid command p input out NoMemory = Untouched out
-PlainDid command p input out _ = ⊥
+abbrev pub PlainDid : Words → Command → Parts → Flow → Flow → Status → Type 0
+PlainDid asked command p input out Done = IsInputTold command input.tells → Said asked command p input out Done
+PlainDid asked command p input out NotCodeword = IsInputTold command input.tells → Said asked command p input out NotCodeword
+PlainDid asked command p input out (Beyond group word) = (IsInputTold command input.tells → Said asked command p input out (Beyond group word)) × Untouched out
+PlainDid asked command p input out (TableRefused line) = (IsInputTold command input.tells → Said asked command p input out (TableRefused line)) × Untouched out
+PlainDid asked command p input out (WordLength taken) = (IsInputTold command input.tells → Said asked command p input out (WordLength taken)) × Untouched out
+PlainDid asked command p input out (TooLong taken) = (IsInputTold command input.tells → Said asked command p input out (TooLong taken)) × Untouched out
+PlainDid asked command p input out InputFault = Failed input × Untouched out
+PlainDid asked command p input out OutFault = Failed out × (IsInputTold command input.tells → SaidFront asked command p input out)
+PlainDid asked command p input out NoMemory = Untouched out
+PlainDid asked command p input out _ = ⊥
 
 abbrev pub EncodeDid : Parts → Flow → Flow → Status → Type 0
 EncodeDid p input out NoMemory = Untouched input × Untouched out
@@ -96,31 +97,31 @@ Wanting Encode input out report = Untouched input × Untouched out × Untouched 
 Wanting Decode input out report = Untouched input × Untouched out × Untouched report
 Wanting command input out report = Untouched out × Untouched report
 
-abbrev pub Did : Command → Parts → Flow → Flow → Flow → Status → Type 0
-Did Encode p input out report status = EncodeDid p input out status × Untouched report
-Did Decode p input out report status = DecodeDid p input out report status
-Did command p input out report status = PlainDid command p input out status × Untouched report
+abbrev pub Did : Words → Command → Parts → Flow → Flow → Flow → Status → Type 0
+Did asked Encode p input out report status = EncodeDid p input out status × Untouched report
+Did asked Decode p input out report status = DecodeDid p input out report status
+Did asked command p input out report status = PlainDid asked command p input out status × Untouched report
 
-abbrev pub Carried : Command → Parts → Flow → Flow → Flow → Status → Type 0
-Carried command p input out report (Descriptor cause) = IsRefusedPart command p cause × Untouched input × Untouched out × Untouched report
-Carried command p input out report NoMemory = Wanting command input out report
-Carried command p input out report status = ((cause : DescCause) → IsRefusedPart command p cause → ⊥) × Did command p input out report status
+abbrev pub Carried : Words → Command → Parts → Flow → Flow → Flow → Status → Type 0
+Carried asked command p input out report (Descriptor cause) = IsRefusedPart command p cause × Untouched input × Untouched out × Untouched report
+Carried asked command p input out report NoMemory = Wanting command input out report
+Carried asked command p input out report status = ((cause : DescCause) → IsRefusedPart command p cause → ⊥) × Did asked command p input out report status
 
-pub record Over (command : Command) (desc input out report : Flow) (status : Status) : Type 0 where
+pub record Over (asked : Words) (command : Command) (desc input out report : Flow) (status : Status) : Type 0 where
   pub parts : Parts
   pub accepted : IsTrue desc.tells → Accepts command desc.before parts
-  pub did : Did command parts input out report status
+  pub did : Did asked command parts input out report status
 
-abbrev pub Ended : Command → Flow → Flow → Flow → Flow → Status → Type 0
-Ended command desc input out report Usage = ⊥
-Ended command desc input out report DescFault = Failed desc × Untouched input × Untouched out × Untouched report
-Ended command desc input out report (Descriptor cause) =
+abbrev pub Ended : Words → Command → Flow → Flow → Flow → Flow → Status → Type 0
+Ended asked command desc input out report Usage = ⊥
+Ended asked command desc input out report DescFault = Failed desc × Untouched input × Untouched out × Untouched report
+Ended asked command desc input out report (Descriptor cause) =
     (IsTrue desc.tells → IsRefused command (meaning desc.before) cause) × Untouched input × Untouched out × Untouched report
-Ended command desc input out report NoMemory = Wanting command input out report
-Ended command desc input out report status = Over command desc input out report status
+Ended asked command desc input out report NoMemory = Wanting command input out report
+Ended asked command desc input out report status = Over asked command desc input out report status
 
 pub record Unasked (texts : List (List ℕ)) (input out report : Flow) (status : Status) : Type 0 where
-  pub nobody : (w : Words) → IsAsked texts w → ⊥
+  pub nobody : (w : Words) → IsCommandLine texts w → ⊥
   pub status_is : status ≡ Usage
   pub input_still : Untouched input
   pub out_still : Untouched out
@@ -128,8 +129,8 @@ pub record Unasked (texts : List (List ℕ)) (input out report : Flow) (status :
 
 pub record Asked (texts : List (List ℕ)) (desc input out report : Flow) (status : Status) : Type 0 where
   pub words : Words
-  pub asked : IsAsked texts words
-  pub ended : Ended words.command desc input out report status
+  pub line : IsCommandLine texts words
+  pub ended : Ended words words.command desc input out report status
 
 abbrev pub Obeyed : List (List ℕ) → Flow → Flow → Flow → Flow → Status → Type 0
 Obeyed texts desc input out report status = Unasked texts input out report status ⊎ Asked texts desc input out report status

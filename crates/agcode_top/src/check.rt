@@ -3,6 +3,7 @@
 ghost use Rattle.std.specs.Prelude.{◌≡◌, ℕ, ◌≤◌, IfOk};
 ghost use Rattle.order_bound.specs.TableChecks.{Says as SaysOfText, SaysOfTable};
 ghost use Rattle.command_words.specs.declared.words.Command.TheVariants.{Check};
+ghost use Rattle.command_words.specs.declared.words.Words.{Words};
 ghost use Rattle.code_descriptor.specs.Meaning.{Parts};
 ghost use Rattle.descriptor_code.specs.Codes.{domain_of, rule_of, IsDescribed};
 ghost use Rattle.agcode_top.specs.Flows.{flow};
@@ -53,7 +54,7 @@ pub fn check<I: Source, O: Sink>(
     out: &mut O,
 ) -> Status
     requires { (p : Parts) × IsDescribed p described.now × (⟦<CabDomain as OrderDomain>⟧.domain described.now.domain ≡ domain_of p) }
-    ensures did { (p : Parts) → IsDescribed p described.now → (⟦<CabDomain as OrderDomain>⟧.domain described.now.domain ≡ domain_of p) → PlainDid Check p
+    ensures did { (w : Words) (p : Parts) → IsDescribed p described.now → (⟦<CabDomain as OrderDomain>⟧.domain described.now.domain ≡ domain_of p) → PlainDid w Check p
         (flow I.tells (I.left input.old) (I.left input.new) (I.faults input.old) (I.faults input.new))
         (flow O.tells (O.given out.old) (O.given out.new) (O.faults out.old) (O.faults out.new)) result }
     ensures input_counted { I.faults input.old ≤ I.faults input.new }

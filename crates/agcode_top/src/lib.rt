@@ -15,11 +15,9 @@ mod status;
 mod table;
 mod text;
 mod top;
+mod trial;
 mod votes;
 mod word;
 
 pub use status::Status;
 pub use top::run;
-
-#[cfg(test)]
-mod tests;

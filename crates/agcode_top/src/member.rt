@@ -2,6 +2,7 @@
 
 ghost use Rattle.std.specs.Prelude.{◌≡◌, ℕ, ◌≤◌, length, IsTrue};
 ghost use Rattle.command_words.specs.declared.words.Command.TheVariants.{Member};
+ghost use Rattle.command_words.specs.declared.words.Words.{Words};
 ghost use Rattle.code_descriptor.specs.Meaning.{Parts};
 ghost use Rattle.descriptor_code.specs.Codes.{IsDescribed};
 ghost use Rattle.agcode_top.specs.Flows.{flow};
@@ -21,7 +22,7 @@ pub fn member<I: Source, O: Sink>(
     out: &mut O,
 ) -> Status
     requires { (p : Parts) × IsDescribed p described.now }
-    ensures did { (p : Parts) → IsDescribed p described.now → PlainDid Member p
+    ensures did { (w : Words) (p : Parts) → IsDescribed p described.now → PlainDid w Member p
         (flow I.tells (I.left input.old) (I.left input.new) (I.faults input.old) (I.faults input.new))
         (flow O.tells (O.given out.old) (O.given out.new) (O.faults out.old) (O.faults out.new)) result }
     ensures input_counted { I.faults input.old ≤ I.faults input.new }

@@ -8,6 +8,7 @@ ghost use Rattle.agcode_top.specs.Commands.{points_text};
 ghost use Rattle.agcode_top.specs.Flows.{Flow, flow};
 ghost use Rattle.agcode_top.specs.Runs.{PlainDid};
 ghost use Rattle.command_words.specs.declared.words.Command.TheVariants.{Points};
+ghost use Rattle.command_words.specs.declared.words.Words.{Words};
 
 use crate::status::Status;
 use crate::word::answer;
@@ -42,7 +43,7 @@ fn text_of_points(alloc: Global, d: &Descriptor) -> Result<Vec<u8>, AllocError>
 /// Writes all points of the curve, a line each.
 pub fn points<O: Sink>(alloc: Global, d: &Descriptor, out: &mut O) -> Status
     requires { IsDescriptor d.now }
-    ensures did { (input : Flow) → PlainDid Points (parts_of d.now) input
+    ensures did { (w : Words) (input : Flow) → PlainDid w Points (parts_of d.now) input
         (flow O.tells (O.given out.old) (O.given out.new) (O.faults out.old) (O.faults out.new)) result }
     ensures out_counted { O.faults out.old ≤ O.faults out.new }
 {

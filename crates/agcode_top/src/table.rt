@@ -2,6 +2,7 @@
 
 ghost use Rattle.std.specs.Prelude.{◌≡◌, ℕ, ◌≤◌};
 ghost use Rattle.command_words.specs.declared.words.Command.TheVariants.{Bound};
+ghost use Rattle.command_words.specs.declared.words.Words.{Words};
 ghost use Rattle.code_descriptor.specs.Meaning.{Parts};
 ghost use Rattle.descriptor_code.specs.Codes.{IsDescribed};
 ghost use Rattle.agcode_top.specs.Flows.{Flow, flow};
@@ -17,7 +18,7 @@ use std::alloc::Global;
 /// Writes the table of the order bound.
 pub fn table<O: Sink>(alloc: Global, described: &DescribedCode, out: &mut O) -> Status
     requires { (p : Parts) × IsDescribed p described.now }
-    ensures did { (p : Parts) (input : Flow) → IsDescribed p described.now → PlainDid Bound p input
+    ensures did { (w : Words) (p : Parts) (input : Flow) → IsDescribed p described.now → PlainDid w Bound p input
         (flow O.tells (O.given out.old) (O.given out.new) (O.faults out.old) (O.faults out.new)) result }
     ensures out_counted { O.faults out.old ≤ O.faults out.new }
 {

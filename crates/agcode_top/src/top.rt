@@ -4,12 +4,13 @@ ghost use Rattle.std.specs.Prelude.{◌≡◌, ℕ, ◌+◌, ◌≤◌, ◌↔�
 ghost use Rattle.std.specs.String.{string_bytes};
 ghost use Rattle.ag_io.specs.Counts.{Rose};
 ghost use Rattle.command_words.specs.declared.words.Command.TheVariants.{Encode, Decode};
+ghost use Rattle.command_words.specs.Lines.{IsCommandLine};
 ghost use Rattle.code_descriptor.specs.Meaning.{Parts, meaning};
 ghost use Rattle.code_descriptor.specs.Views.{parts_of, IsDescriptor};
 ghost use Rattle.descriptor_code.specs.Codes.{domain_of, IsDescribed};
 ghost use Rattle.agcode_top.specs.Flows.{flow, GaveOrFailed};
 ghost use Rattle.agcode_top.specs.Lines.{line_of};
-ghost use Rattle.agcode_top.specs.Commands.{is_built as has_command, takes_no_code, IsAsked, IsInputTold, IsRefused};
+ghost use Rattle.agcode_top.specs.Commands.{takes_no_code, IsInputTold, IsRefused};
 ghost use Rattle.agcode_top.specs.Runs.{Did, Carried, Ended, Obeyed, IsAnswer, IsQuiet, IsEarly, is_streamed};
 ghost use Rattle.agcode_top.specs.Headline.{Answered, GaveFront, HasImage, ReadAs, IsRead, IsRepair, Completed};
 
@@ -23,6 +24,7 @@ use crate::report::tell;
 use crate::status::Status;
 use crate::table::table;
 use crate::text::{TextFault, read_text};
+use crate::trial::trial;
 use crate::votes::votes;
 use ag_io::{Sink, Source};
 use ag_pool::Gate;
@@ -35,13 +37,6 @@ use order_domain::OrderDomain;
 use std::alloc::Global;
 use std::thread::Threads;
 
-// Whether the program has a command.
-fn is_built(command: Command) -> bool
-    ensures { result ≡ has_command command }
-{
-    !matches!(command, Command::Trial)
-}
-
 // Serves a command that works on the code of a descriptor.
 fn serve<X: Threads + Sync, I: Source, O: Sink, R: Sink, G: Gate>(
     rt: &X,
@@ -53,12 +48,12 @@ fn serve<X: Threads + Sync, I: Source, O: Sink, R: Sink, G: Gate>(
     report: &mut R,
     gate: &G,
 ) -> Status
-    requires built { has_command asked.now.command ≡ true }
     requires code { takes_no_code asked.now.command ≡ false }
     requires some_workers { 1 ≤ asked.now.workers }
     requires few_workers { asked.now.workers ≤ 64 }
+    requires few_bytes { asked.now.bytes ≤ 65536 }
     requires described { (p : Parts) × IsDescribed p described.now × (⟦<CabDomain as OrderDomain>⟧.domain described.now.domain ≡ domain_of p) }
-    ensures did { (p : Parts) → IsDescribed p described.now → (⟦<CabDomain as OrderDomain>⟧.domain described.now.domain ≡ domain_of p) → Did asked.now.command p
+    ensures did { (p : Parts) → IsDescribed p described.now → (⟦<CabDomain as OrderDomain>⟧.domain described.now.domain ≡ domain_of p) → Did asked.now asked.now.command p
         (flow I.tells (I.left input.old) (I.left input.new) (I.faults input.old) (I.faults input.new))
         (flow O.tells (O.given out.old) (O.given out.new) (O.faults out.old) (O.faults out.new))
         (flow R.tells (R.given report.old) (R.given report.new) (R.faults report.old) (R.faults report.new)) result }
@@ -83,7 +78,8 @@ fn serve<X: Threads + Sync, I: Source, O: Sink, R: Sink, G: Gate>(
             gate,
         ),
         Command::Votes => votes(alloc, described, input, out),
-        _ => unreachable!(),
+        Command::Trial => trial(rt, alloc, asked, described, out),
+        Command::Points => unreachable!(),
     }
 }
 
@@ -98,12 +94,12 @@ fn compile_and_serve<X: Threads + Sync, I: Source, O: Sink, R: Sink, G: Gate>(
     report: &mut R,
     gate: &G,
 ) -> Status
-    requires built { has_command asked.now.command ≡ true }
     requires code { takes_no_code asked.now.command ≡ false }
     requires some_workers { 1 ≤ asked.now.workers }
     requires few_workers { asked.now.workers ≤ 64 }
+    requires few_bytes { asked.now.bytes ≤ 65536 }
     requires descriptor { IsDescriptor descriptor }
-    ensures carried { Carried asked.now.command (parts_of descriptor)
+    ensures carried { Carried asked.now asked.now.command (parts_of descriptor)
         (flow I.tells (I.left input.old) (I.left input.new) (I.faults input.old) (I.faults input.new))
         (flow O.tells (O.given out.old) (O.given out.new) (O.faults out.old) (O.faults out.new))
         (flow R.tells (R.given report.old) (R.given report.new) (R.faults report.old) (R.faults report.new)) result }
@@ -125,7 +121,7 @@ fn compile_and_serve<X: Threads + Sync, I: Source, O: Sink, R: Sink, G: Gate>(
     }
 }
 
-// Carries out a command that is built.
+// Carries out a command.
 fn carry_out<X: Threads + Sync, D: Source, I: Source, O: Sink, R: Sink, G: Gate>(
     rt: &X,
     alloc: Global,
@@ -136,10 +132,10 @@ fn carry_out<X: Threads + Sync, D: Source, I: Source, O: Sink, R: Sink, G: Gate>
     report: &mut R,
     gate: &G,
 ) -> Status
-    requires built { has_command asked.now.command ≡ true }
     requires some_workers { 1 ≤ asked.now.workers }
     requires few_workers { asked.now.workers ≤ 64 }
-    ensures ended { Ended asked.now.command
+    requires few_bytes { asked.now.bytes ≤ 65536 }
+    ensures ended { Ended asked.now asked.now.command
         (flow D.tells (D.left desc.old) (D.left desc.new) (D.faults desc.old) (D.faults desc.new))
         (flow I.tells (I.left input.old) (I.left input.new) (I.faults input.old) (I.faults input.new))
         (flow O.tells (O.given out.old) (O.given out.new) (O.faults out.old) (O.faults out.new))
@@ -191,9 +187,6 @@ fn obey<X: Threads + Sync, D: Source, I: Source, O: Sink, R: Sink, G: Gate>(
     let Some(asked) = read_words(words) else {
         return Status::Usage;
     };
-    if !is_built(asked.command) {
-        return Status::Usage;
-    }
     carry_out(rt, alloc, &asked, desc, input, out, report, gate)
 }
 
@@ -211,24 +204,24 @@ pub fn run<X: Threads + Sync, D: Source, I: Source, O: Sink, R: Sink, G: Gate>(
     gate: &G,
 ) -> Status
     // the headline: encoding, repair, reading, completeness
-    ensures encode { (w : Words) → IsAsked (map string_bytes words.now) w → w.command ≡ Encode → result ≡ Status.Done → IsTrue D.tells → IsTrue I.tells →
+    ensures encode { (w : Words) → IsCommandLine (map string_bytes words.now) w → w.command ≡ Encode → result ≡ Status.Done → IsTrue D.tells → IsTrue I.tells →
         HasImage
         (flow D.tells (D.left desc.old) (D.left desc.new) (D.faults desc.old) (D.faults desc.new))
         (flow I.tells (I.left input.old) (I.left input.new) (I.faults input.old) (I.faults input.new))
         (flow O.tells (O.given out.old) (O.given out.new) (O.faults out.old) (O.faults out.new)) }
-    ensures repair { (w : Words) → IsAsked (map string_bytes words.now) w → w.command ≡ Decode →
+    ensures repair { (w : Words) → IsCommandLine (map string_bytes words.now) w → w.command ≡ Decode →
         IsRepair
         (flow D.tells (D.left desc.old) (D.left desc.new) (D.faults desc.old) (D.faults desc.new))
         (flow I.tells (I.left input.old) (I.left input.new) (I.faults input.old) (I.faults input.new))
         (flow O.tells (O.given out.old) (O.given out.new) (O.faults out.old) (O.faults out.new))
         (flow R.tells (R.given report.old) (R.given report.new) (R.faults report.old) (R.faults report.new)) result }
-    ensures reading { (w : Words) → IsAsked (map string_bytes words.now) w → w.command ≡ Decode → IsRead result → IsTrue D.tells → IsTrue I.tells →
+    ensures reading { (w : Words) → IsCommandLine (map string_bytes words.now) w → w.command ≡ Decode → IsRead result → IsTrue D.tells → IsTrue I.tells →
         ReadAs
         (flow D.tells (D.left desc.old) (D.left desc.new) (D.faults desc.old) (D.faults desc.new))
         (flow I.tells (I.left input.old) (I.left input.new) (I.faults input.old) (I.faults input.new))
         (flow O.tells (O.given out.old) (O.given out.new) (O.faults out.old) (O.faults out.new))
         (flow R.tells (R.given report.old) (R.given report.new) (R.faults report.old) (R.faults report.new)) result }
-    ensures complete { (w : Words) → IsAsked (map string_bytes words.now) w →
+    ensures complete { (w : Words) → IsCommandLine (map string_bytes words.now) w →
         Completed w.command
         (flow D.tells (D.left desc.old) (D.left desc.new) (D.faults desc.old) (D.faults desc.new))
         (flow I.tells (I.left input.old) (I.left input.new) (I.faults input.old) (I.faults input.new))
@@ -236,8 +229,8 @@ pub fn run<X: Threads + Sync, D: Source, I: Source, O: Sink, R: Sink, G: Gate>(
         (flow R.tells (R.given report.old) (R.given report.new) (R.faults report.old) (R.faults report.new)) result }
 
     // each status only by its cause
-    ensures usage { result ≡ Status.Usage ↔ ((w : Words) → IsAsked (map string_bytes words.now) w → ⊥) }
-    ensures descriptor { (w : Words) → IsAsked (map string_bytes words.now) w →
+    ensures usage { result ≡ Status.Usage ↔ ((w : Words) → IsCommandLine (map string_bytes words.now) w → ⊥) }
+    ensures descriptor { (w : Words) → IsCommandLine (map string_bytes words.now) w →
         (cause : DescCause) → result ≡ Status.Descriptor cause → IsTrue D.tells → IsRefused w.command (meaning (D.left desc.old)) cause }
     ensures desc_fault { result ≡ Status.DescFault → Rose (D.faults desc.old) (D.faults desc.new) }
     ensures input_fault { result ≡ Status.InputFault → Rose (I.faults input.old) (I.faults input.new) }
@@ -245,21 +238,21 @@ pub fn run<X: Threads + Sync, D: Source, I: Source, O: Sink, R: Sink, G: Gate>(
     ensures report_fault { result ≡ Status.ReportFault → Rose (R.faults report.old) (R.faults report.new) }
 
     // what the other commands say, by the descriptor and the input, with their text on out
-    ensures answer { (w : Words) → IsAsked (map string_bytes words.now) w → is_streamed w.command ≡ false → IsAnswer result → IsTrue D.tells → IsInputTold w.command I.tells →
-        Answered w.command
+    ensures answer { (w : Words) → IsCommandLine (map string_bytes words.now) w → is_streamed w.command ≡ false → IsAnswer result → IsTrue D.tells → IsInputTold w.command I.tells →
+        Answered w
         (flow D.tells (D.left desc.old) (D.left desc.new) (D.faults desc.old) (D.faults desc.new))
         (flow I.tells (I.left input.old) (I.left input.new) (I.faults input.old) (I.faults input.new))
         (flow O.tells (O.given out.old) (O.given out.new) (O.faults out.old) (O.faults out.new)) result }
 
     // what stands on out, on report and in the sources after a refusal
-    ensures front { (w : Words) → IsAsked (map string_bytes words.now) w → is_streamed w.command ≡ false → result ≡ Status.OutFault → IsTrue D.tells → IsInputTold w.command I.tells →
-        GaveFront w.command
+    ensures front { (w : Words) → IsCommandLine (map string_bytes words.now) w → is_streamed w.command ≡ false → result ≡ Status.OutFault → IsTrue D.tells → IsInputTold w.command I.tells →
+        GaveFront w
         (flow D.tells (D.left desc.old) (D.left desc.new) (D.faults desc.old) (D.faults desc.new))
         (flow I.tells (I.left input.old) (I.left input.new) (I.faults input.old) (I.faults input.new))
         (flow O.tells (O.given out.old) (O.given out.new) (O.faults out.old) (O.faults out.new)) }
-    ensures quiet { (w : Words) → IsAsked (map string_bytes words.now) w → IsQuiet (is_streamed w.command) result → IsTrue O.tells → O.given out.new ≡ O.given out.old }
+    ensures quiet { (w : Words) → IsCommandLine (map string_bytes words.now) w → IsQuiet (is_streamed w.command) result → IsTrue O.tells → O.given out.new ≡ O.given out.old }
     ensures early { IsEarly result → IsTrue I.tells → I.left input.new ≡ I.left input.old }
-    ensures report { ((w : Words) → IsAsked (map string_bytes words.now) w → w.command ≡ Decode → ⊥) → IsTrue R.tells →
+    ensures report { ((w : Words) → IsCommandLine (map string_bytes words.now) w → w.command ≡ Decode → ⊥) → IsTrue R.tells →
         GaveOrFailed (R.given report.old) (R.given report.new) (R.faults report.old) (R.faults report.new) (line_of result) }
     ensures desc_taken { IsTrue D.tells → length (D.left desc.old) ≤ length (D.left desc.new) + 1048577 }
 

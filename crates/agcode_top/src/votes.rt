@@ -2,6 +2,7 @@
 
 ghost use Rattle.std.specs.Prelude.{◌≡◌, ℕ, ◌≤◌, length, IsTrue};
 ghost use Rattle.command_words.specs.declared.words.Command.TheVariants.{Votes};
+ghost use Rattle.command_words.specs.declared.words.Words.{Words};
 ghost use Rattle.code_descriptor.specs.Meaning.{Parts};
 ghost use Rattle.descriptor_code.specs.Codes.{IsDescribed};
 ghost use Rattle.agcode_top.specs.Flows.{flow};
@@ -23,7 +24,7 @@ pub fn votes<I: Source, O: Sink>(
     out: &mut O,
 ) -> Status
     requires { (p : Parts) × IsDescribed p described.now }
-    ensures did { (p : Parts) → IsDescribed p described.now → PlainDid Votes p
+    ensures did { (w : Words) (p : Parts) → IsDescribed p described.now → PlainDid w Votes p
         (flow I.tells (I.left input.old) (I.left input.new) (I.faults input.old) (I.faults input.new))
         (flow O.tells (O.given out.old) (O.given out.new) (O.faults out.old) (O.faults out.new)) result }
     ensures input_counted { I.faults input.old ≤ I.faults input.new }

@@ -10,7 +10,7 @@ returns-in-Points-clause-ended g c =
     let input : Flow = flow g.I.Source.tells (g.I.Source.left c.args.input.now) (g.I.Source.left c.args.input.now) (g.I.Source.faults c.args.input.now) (g.I.Source.faults c.args.input.now) in
     let out : Flow = flow g.O.Sink.tells (g.O.Sink.given c.args.out.now) (g.O.Sink.given c.points.new.out) (g.O.Sink.faults c.args.out.now) (g.O.Sink.faults c.points.new.out) in
     let report : Flow = flow g.R.Sink.tells (g.R.Sink.given c.args.report.now) (g.R.Sink.given c.args.report.now) (g.R.Sink.faults c.args.report.now) (g.R.Sink.faults c.args.report.now) in
-    ended-at _ Points _ input out report _ c.in-Points.is
-    (ended-carried Points (parts_of c.in-Ok-read.descriptor) _ input out report _
+    ended-at _ _ Points _ input out report _ c.in-Points.is
+    (ended-carried _ Points (parts_of c.in-Ok-read.descriptor) _ input out report _
     (λ told. read-means _ _ _ (parts_of c.in-Ok-read.descriptor) c.deref.ensures.value (c.in-Ok.ensures.text told) c.in-Ok-read.ensures.accepted)
-    (carried-did Points (parts_of c.in-Ok-read.descriptor) input out report _ (takes-all Points (parts_of c.in-Ok-read.descriptor) refl) (c.points.ensures.did input, λ told. refl)))
+    (carried-did _ Points (parts_of c.in-Ok-read.descriptor) input out report _ (takes-all Points (parts_of c.in-Ok-read.descriptor) refl) (c.points.ensures.did _ input, λ told. refl)))

@@ -5,17 +5,17 @@ use Rattle.agcode_top.proofs.WordLemmas.{votes-fault, votes-near, votes-far}
 use Rattle.agcode_top.proofs.votes.votes.Goals as goal
 
 pub returns-in-Err-clause-did : goal.returns-in-Err-clause-did
-returns-in-Err-clause-did g c = λ p d. votes-fault p _ _ _ _ (c.n-n.ensures.value ∙ d.code.built.n_is) (λ told. refl) c.in-Err.ensures.fault
+returns-in-Err-clause-did g c = λ w p d. votes-fault w p _ _ _ _ (c.n-n.ensures.value ∙ d.code.built.n_is) (λ told. refl) c.in-Err.ensures.fault
 
 pub returns-in-Beyond-clause-did : goal.returns-in-Beyond-clause-did
-returns-in-Beyond-clause-did g c = λ p d.
-    votes-far p c.args.described.now.code _ _ c.in-Ok-read_word.got.items c.decode_block.new.word d.code c.in-Ok-read_word.ensures.word
+returns-in-Beyond-clause-did g c = λ w p d.
+    votes-far w p c.args.described.now.code _ _ c.in-Ok-read_word.got.items c.decode_block.new.word d.code c.in-Ok-read_word.ensures.word
     (c.in-Ok-read_word.ensures.long ∙ c.n-n.ensures.value ∙ d.code.built.n_is)
     (rw (← c.deref.ensures.value) c.in-Beyond.ensures.verdict) (λ told. refl)
 
 pub returns-in-Ok-votes_text-clause-did : goal.returns-in-Ok-votes_text-clause-did
-returns-in-Ok-votes_text-clause-did g c = λ p d.
-    votes-near p c.args.described.now.code _ _ c.in-Ok-read_word.got.items c.decode_block.new.word c.in-Near.changes c.ledger.result.now c.deref-in-Ok-votes_text.result.now _ d.code
+returns-in-Ok-votes_text-clause-did g c = λ w p d.
+    votes-near w p c.args.described.now.code _ _ c.in-Ok-read_word.got.items c.decode_block.new.word c.in-Near.changes c.ledger.result.now c.deref-in-Ok-votes_text.result.now _ d.code
     c.in-Ok-read_word.ensures.word
     (c.in-Ok-read_word.ensures.long ∙ c.n-n.ensures.value ∙ d.code.built.n_is)
     (rw (← c.deref.ensures.value) c.in-Near.ensures.verdict)

@@ -1,0 +1,28 @@
+//! Worked rows of the program: words, a descriptor and an input, and the status, the output and the report that follow, over
+//! memory. All expected values were worked by hand. Nothing of its own but tests.
+#![tactic(auto)]
+
+#[cfg(test)]
+mod bound_rows;
+#[cfg(test)]
+mod decode_rows;
+#[cfg(test)]
+mod descriptor_rows;
+#[cfg(test)]
+mod descriptors;
+#[cfg(test)]
+mod encode_rows;
+#[cfg(test)]
+mod fault_rows;
+#[cfg(test)]
+mod gate;
+#[cfg(test)]
+mod large_rows;
+#[cfg(test)]
+mod member_rows;
+#[cfg(test)]
+mod rig;
+#[cfg(test)]
+mod trial_rows;
+#[cfg(test)]
+mod word_rows;

@@ -1,0 +1,5 @@
+pub mod Bounds
+pub mod Radius
+pub mod Encoded
+pub mod Decoded
+pub mod Drawn
