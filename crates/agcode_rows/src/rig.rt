@@ -1,5 +1,7 @@
 //! Runs over memory.
 
+ghost use Rattle.std.specs.Prelude.{◌≤◌};
+
 use ag_io::{MemSink, MemSource};
 use ag_pool::{Gate, OpenGate};
 use agcode_top::{Status, run};
@@ -29,7 +31,9 @@ pub fn source(
     bytes: &[u8],
     fails: &[u64],
     piece: usize,
-) -> Result<MemSource, AllocError> {
+) -> Result<MemSource, AllocError>
+    requires { 1 ≤ piece }
+{
     Ok(MemSource::new(bytes.to_vec(alloc)?, fails.to_vec(alloc)?, piece))
 }
 

@@ -33,8 +33,8 @@ use Rattle.agcode_top.specs.Flows.{Flow, Untouched, Failed, Stayed, GavePart, Ga
 use Rattle.agcode_top.specs.Commands.{IsRefused, Accepts, Says, SaysMember, SaysCheck, SaysVotes, IsInputTold}
 use Rattle.agcode_top.specs.Lines.{line_of}
 use Rattle.agcode_top.specs.Streams.{Encoded, Decoded, encode_status, decode_status, encode_of, decode_of, most}
-use Rattle.agcode_top.specs.Runs.{IsAnswer, IsEarly, is_streamed, IsQuiet, PlainDid, EncodeDid, DecodeDid, Did, Over, Ended, Obeyed}
-use Rattle.agcode_top.specs.Headline.{Answered, GaveFront, HasImage, IsRead, status_of_reading, ReadAs, Repaired, IsRepair, IsFileText, IsValid, Completed}
+use Rattle.agcode_top.specs.Runs.{IsAnswer, IsEarly, IsOwn, is_streamed, IsQuiet, PlainDid, EncodeDid, DecodeDid, Did, Over, Ended, Obeyed}
+use Rattle.agcode_top.specs.Headline.{Answered, GaveFront, EncodedBy, DecodedBy, HasImage, IsRead, status_of_reading, ReadAs, Repaired, IsRepair, IsFileText, IsValid, Completed}
 
 -- counts of faults over more than one call
 pub rose-later : (a b c : ℕ) → a ≤ b → Rose b c → Rose a c
@@ -478,24 +478,24 @@ wanting-report ws Decode d i o m h = h.2
 wanting-report ws Votes d i o m h = h.1
 wanting-report ws Trial d i o m h = h.1
 
-ended-report : (ws : Words) (command : Command) (d i o m : Flow) (s : Status) → (command ≡ Decode → ⊥) → Ended ws command d i o m s → Untouched m
-ended-report ws command d i o m Done n h = did-report ws command h.parts i o m Done n h.did
-ended-report ws command d i o m NotCodeword n h = did-report ws command h.parts i o m NotCodeword n h.did
-ended-report ws command d i o m (Beyond group word) n h = did-report ws command h.parts i o m (Beyond group word) n h.did
-ended-report ws command d i o m (Ragged extra) n h = did-report ws command h.parts i o m (Ragged extra) n h.did
-ended-report ws command d i o m Framing n h = did-report ws command h.parts i o m Framing n h.did
-ended-report ws command d i o m (TableRefused line) n h = did-report ws command h.parts i o m (TableRefused line) n h.did
-ended-report ws command d i o m (WordLength taken) n h = did-report ws command h.parts i o m (WordLength taken) n h.did
+ended-report : (ws : Words) (command : Command) (d i o m : Flow) (s : Status) → (command ≡ Decode → IsOwn s → ⊥) → Ended ws command d i o m s → Untouched m
+ended-report ws command d i o m Done n h = did-report ws command h.parts i o m Done (λ e. n e tt) h.did
+ended-report ws command d i o m NotCodeword n h = did-report ws command h.parts i o m NotCodeword (λ e. n e tt) h.did
+ended-report ws command d i o m (Beyond group word) n h = did-report ws command h.parts i o m (Beyond group word) (λ e. n e tt) h.did
+ended-report ws command d i o m (Ragged extra) n h = did-report ws command h.parts i o m (Ragged extra) (λ e. n e tt) h.did
+ended-report ws command d i o m Framing n h = did-report ws command h.parts i o m Framing (λ e. n e tt) h.did
+ended-report ws command d i o m (TableRefused line) n h = did-report ws command h.parts i o m (TableRefused line) (λ e. n e tt) h.did
+ended-report ws command d i o m (WordLength taken) n h = did-report ws command h.parts i o m (WordLength taken) (λ e. n e tt) h.did
 ended-report ws command d i o m Usage n h = absurd h
 ended-report ws command d i o m (Descriptor cause) n h = h.3
-ended-report ws command d i o m (TooLong taken) n h = did-report ws command h.parts i o m (TooLong taken) n h.did
+ended-report ws command d i o m (TooLong taken) n h = did-report ws command h.parts i o m (TooLong taken) (λ e. n e tt) h.did
 ended-report ws command d i o m DescFault n h = h.3
-ended-report ws command d i o m InputFault n h = did-report ws command h.parts i o m InputFault n h.did
-ended-report ws command d i o m OutFault n h = did-report ws command h.parts i o m OutFault n h.did
-ended-report ws command d i o m ReportFault n h = did-report ws command h.parts i o m ReportFault n h.did
+ended-report ws command d i o m InputFault n h = did-report ws command h.parts i o m InputFault (λ e. n e tt) h.did
+ended-report ws command d i o m OutFault n h = did-report ws command h.parts i o m OutFault (λ e. n e tt) h.did
+ended-report ws command d i o m ReportFault n h = did-report ws command h.parts i o m ReportFault (λ e. n e tt) h.did
 ended-report ws command d i o m NoMemory n h = wanting-report ws command d i o m h
 
-obeyed-report : (texts : List (List ℕ)) (d i o m : Flow) (s : Status) → Obeyed texts d i o m s → ((w : Words) → IsCommandLine texts w → w.command ≡ Decode → ⊥) → Untouched m
+obeyed-report : (texts : List (List ℕ)) (d i o m : Flow) (s : Status) → Obeyed texts d i o m s → ((w : Words) → IsCommandLine texts w → w.command ≡ Decode → IsOwn s → ⊥) → Untouched m
 obeyed-report texts d i o m s (inl u) n = u.report_still
 obeyed-report texts d i o m s (inr w) n = ended-report w.words w.words.command d i o m s (n w.words w.line) w.ended
 
@@ -504,7 +504,7 @@ gave-later before mid after a b c bytes e l (inl h) = inl (h ∙ ap (λ (t : Lis
 gave-later before mid after a b c bytes e l (inr h) = inr (subst (λ (t : List ℕ). GavePart t after bytes) e h.0, rose-later a b c l h.1)
 
 pub run-report : (texts : List (List ℕ)) (d i o m : Flow) (s : Status) (given : List ℕ) (faults : ℕ) → Obeyed texts d i o m s → m.faults_before ≤ m.faults_after →
-    (IsTrue m.tells → GaveOrFailed m.after given m.faults_after faults (line_of s)) → ((w : Words) → IsCommandLine texts w → w.command ≡ Decode → ⊥) → IsTrue m.tells →
+    (IsTrue m.tells → GaveOrFailed m.after given m.faults_after faults (line_of s)) → ((w : Words) → IsCommandLine texts w → w.command ≡ Decode → IsOwn s → ⊥) → IsTrue m.tells →
     GaveOrFailed m.before given m.faults_before faults (line_of s)
 run-report texts d i o m s given faults h l t n told =
     gave-later m.before m.after given m.faults_before m.faults_after faults (line_of s) (obeyed-report texts d i o m s h n told) l (t told)
@@ -677,3 +677,38 @@ pub run-reading : (texts : List (List ℕ)) (d i o m : Flow) (s : Status) (given
     (IsTrue m.tells → GaveOrFailed m.after given m.faults_after faults (line_of s)) → (v : Words) → IsCommandLine texts v → v.command ≡ Decode → IsRead s → IsTrue d.tells → IsTrue i.tells → ReadAs d i o (whole m given faults) s
 run-reading texts d i o m s given faults h l t v k c q told it =
     reading-over v d i o m s given faults (ended-read v d i o m s q (subst (λ (y : Command). Ended v y d i o m s) c (obeyed-ended texts d i o m s h v k))) q told it l t
+
+-- all that encode and decode leave
+ended-own : (ws : Words) (command : Command) (d i o m : Flow) (s : Status) → IsOwn s → Ended ws command d i o m s → Over ws command d i o m s
+ended-own ws command d i o m Done q h = h
+ended-own ws command d i o m NotCodeword q h = h
+ended-own ws command d i o m (Beyond group word) q h = h
+ended-own ws command d i o m (Ragged extra) q h = h
+ended-own ws command d i o m Framing q h = h
+ended-own ws command d i o m (TableRefused line) q h = h
+ended-own ws command d i o m (WordLength taken) q h = h
+ended-own ws command d i o m Usage q h = absurd q
+ended-own ws command d i o m (Descriptor cause) q h = absurd q
+ended-own ws command d i o m (TooLong taken) q h = h
+ended-own ws command d i o m DescFault q h = absurd q
+ended-own ws command d i o m InputFault q h = h
+ended-own ws command d i o m OutFault q h = h
+ended-own ws command d i o m ReportFault q h = h
+ended-own ws command d i o m NoMemory q h = absurd q
+
+encoded-own : (p : Parts) (i o : Flow) (s : Status) → IsOwn s → EncodeDid p i o s → Encoded p i o s
+encoded-own p i o s q h = elim (encode-cases p i o s h) [ inl e ↦ absurd (subst IsOwn e q) | inr k ↦ k ]
+
+decoded-own : (p : Parts) (i o r : Flow) (s : Status) → IsOwn s → DecodeDid p i o r s → Decoded p i o r s
+decoded-own p i o r s q h = elim (decode-cases p i o r s h) [ inl e ↦ absurd (subst IsOwn e q) | inr k ↦ k ]
+
+pub run-encoded : (texts : List (List ℕ)) (d i o m : Flow) (s : Status) → Obeyed texts d i o m s → (v : Words) → IsCommandLine texts v → v.command ≡ Encode → IsOwn s → IsTrue d.tells → EncodedBy d i o s
+run-encoded texts d i o m s h v k c q told =
+    let g : Over v Encode d i o m s = ended-own v Encode d i o m s q (subst (λ (x : Command). Ended v x d i o m s) c (obeyed-ended texts d i o m s h v k)) in
+    record { parts = g.parts; accepted = g.accepted told; encoded = encoded-own g.parts i o s q g.did.0 }
+
+pub run-decoded : (texts : List (List ℕ)) (d i o m : Flow) (s : Status) (given : List ℕ) (faults : ℕ) → Obeyed texts d i o m s → m.faults_after ≤ faults →
+    (IsTrue m.tells → GaveOrFailed m.after given m.faults_after faults (line_of s)) → (v : Words) → IsCommandLine texts v → v.command ≡ Decode → IsOwn s → IsTrue d.tells → DecodedBy d i o (whole m given faults) s
+run-decoded texts d i o m s given faults h k t v l c q told =
+    let g : Over v Decode d i o m s = ended-own v Decode d i o m s q (subst (λ (x : Command). Ended v x d i o m s) c (obeyed-ended texts d i o m s h v l)) in
+    record { parts = g.parts; accepted = g.accepted told; given = m.after; faults = m.faults_after; counted = k; decoded = decoded-own g.parts i o m s q g.did; told = t }

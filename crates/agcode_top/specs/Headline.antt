@@ -10,6 +10,10 @@
 --                     differ, and the done line
 -- IsRepair            the repair: a text that differs from the image of a file in at most as many bytes of each block as the
 --                     radius is decoded to that file, where no count rose, or memory was wanting
+-- EncodedBy           encode: all that is known of the input and out by the status that it ended with
+-- until               a sink up to some time of a call
+-- DecodedBy           decode: all that is known of the input, out and report by the status that it ended with; the line of the
+--                     status was told last
 -- IsTableText         an input within the limit that is the table of the order bound
 -- IsFileText          an input within the limit that is read as a file
 -- IsValid             the input is one that a command takes
@@ -33,7 +37,7 @@ use Rattle.agcode_top.specs.declared.status.Status.TheVariants.{Done, Beyond, Ra
 use Rattle.agcode_top.specs.Flows.{Flow, Stayed, GaveOrFailed}
 use Rattle.agcode_top.specs.Lines.{line_of}
 use Rattle.agcode_top.specs.Commands.{Accepts, IsInputTold, IsNearCode}
-use Rattle.agcode_top.specs.Streams.{most}
+use Rattle.agcode_top.specs.Streams.{most, Encoded, Decoded}
 use Rattle.agcode_top.specs.Runs.{Said, SaidFront}
 
 pub record Answered (asked : Words) (desc input out : Flow) (status : Status) : Type 0 where
@@ -89,6 +93,24 @@ IsRepair desc input out report status =
     IsTrue desc.tells → IsTrue input.tells → Stayed desc → Stayed input → Stayed out → Stayed report →
     (p : Parts) (code : Compiled) (x : List ℕ) → Accepts Decode desc.before p → IsCodeOf p code → IsFile x → IsNearImage (form_of_parts p code) x input.before →
     length input.before ≤ most → ((status ≡ Done) × Repaired (form_of_parts p code) x input out report) ⊎ (status ≡ NoMemory)
+
+pub record EncodedBy (desc input out : Flow) (status : Status) : Type 0 where
+  pub parts : Parts
+  pub accepted : Accepts Encode desc.before parts
+  pub encoded : Encoded parts input out status
+
+abbrev pub until : Flow → List ℕ → ℕ → Flow
+until sink given faults = record { tells = sink.tells; before = sink.before; after = given; faults_before = sink.faults_before; faults_after = faults }
+
+pub record DecodedBy (desc input out report : Flow) (status : Status) : Type 0 where
+  pub parts : Parts
+  pub accepted : Accepts Decode desc.before parts
+  -- report before the line of the status
+  pub given : List ℕ
+  pub faults : ℕ
+  pub counted : faults ≤ report.faults_after
+  pub decoded : Decoded parts input out (until report given faults) status
+  pub told : IsTrue report.tells → GaveOrFailed given report.after faults report.faults_after (line_of status)
 
 pub record IsTableText (p : Parts) (input : List ℕ) : Type 0 where
   pub within : length input ≤ 67108864

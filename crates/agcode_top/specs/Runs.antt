@@ -1,5 +1,6 @@
 -- IsAnswer      a status by which a command that writes one text says its answer
 -- IsEarly       a status before which nothing of the input was taken
+-- IsOwn         a status that a command ends with by its own work
 -- is_streamed   a command that encodes or decodes the input as it comes
 -- IsQuiet       a status after which nothing was given on out
 -- Said          a command said its answer over a descriptor of these parts, with its text on out
@@ -43,6 +44,13 @@ IsEarly Usage = Unit {0}
 IsEarly (Descriptor cause) = Unit {0}
 IsEarly DescFault = Unit {0}
 IsEarly _ = ⊥
+
+abbrev pub IsOwn : Status → Type 0
+IsOwn Usage = ⊥
+IsOwn (Descriptor cause) = ⊥
+IsOwn DescFault = ⊥
+IsOwn NoMemory = ⊥
+IsOwn _ = Unit {0}
 
 abbrev pub is_streamed : Command → Bool
 is_streamed Encode = true

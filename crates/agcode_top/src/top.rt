@@ -11,8 +11,8 @@ ghost use Rattle.descriptor_code.specs.Codes.{domain_of, IsDescribed};
 ghost use Rattle.agcode_top.specs.Flows.{flow, GaveOrFailed};
 ghost use Rattle.agcode_top.specs.Lines.{line_of};
 ghost use Rattle.agcode_top.specs.Commands.{takes_no_code, IsInputTold, IsRefused};
-ghost use Rattle.agcode_top.specs.Runs.{Did, Carried, Ended, Obeyed, IsAnswer, IsQuiet, IsEarly, is_streamed};
-ghost use Rattle.agcode_top.specs.Headline.{Answered, GaveFront, HasImage, ReadAs, IsRead, IsRepair, Completed};
+ghost use Rattle.agcode_top.specs.Runs.{Did, Carried, Ended, Obeyed, IsAnswer, IsQuiet, IsEarly, IsOwn, is_streamed};
+ghost use Rattle.agcode_top.specs.Headline.{Answered, GaveFront, EncodedBy, DecodedBy, HasImage, ReadAs, IsRead, IsRepair, Completed};
 
 use crate::check::check;
 use crate::decode::decode;
@@ -244,6 +244,19 @@ pub fn run<X: Threads + Sync, D: Source, I: Source, O: Sink, R: Sink, G: Gate>(
         (flow I.tells (I.left input.old) (I.left input.new) (I.faults input.old) (I.faults input.new))
         (flow O.tells (O.given out.old) (O.given out.new) (O.faults out.old) (O.faults out.new)) result }
 
+    // all that encode and decode leave, by the status that they end with
+    ensures encoded { (w : Words) → IsCommandLine (map string_bytes words.now) w → w.command ≡ Encode → IsOwn result → IsTrue D.tells →
+        EncodedBy
+        (flow D.tells (D.left desc.old) (D.left desc.new) (D.faults desc.old) (D.faults desc.new))
+        (flow I.tells (I.left input.old) (I.left input.new) (I.faults input.old) (I.faults input.new))
+        (flow O.tells (O.given out.old) (O.given out.new) (O.faults out.old) (O.faults out.new)) result }
+    ensures decoded { (w : Words) → IsCommandLine (map string_bytes words.now) w → w.command ≡ Decode → IsOwn result → IsTrue D.tells →
+        DecodedBy
+        (flow D.tells (D.left desc.old) (D.left desc.new) (D.faults desc.old) (D.faults desc.new))
+        (flow I.tells (I.left input.old) (I.left input.new) (I.faults input.old) (I.faults input.new))
+        (flow O.tells (O.given out.old) (O.given out.new) (O.faults out.old) (O.faults out.new))
+        (flow R.tells (R.given report.old) (R.given report.new) (R.faults report.old) (R.faults report.new)) result }
+
     // what stands on out, on report and in the sources after a refusal
     ensures front { (w : Words) → IsCommandLine (map string_bytes words.now) w → is_streamed w.command ≡ false → result ≡ Status.OutFault → IsTrue D.tells → IsInputTold w.command I.tells →
         GaveFront w
@@ -252,7 +265,7 @@ pub fn run<X: Threads + Sync, D: Source, I: Source, O: Sink, R: Sink, G: Gate>(
         (flow O.tells (O.given out.old) (O.given out.new) (O.faults out.old) (O.faults out.new)) }
     ensures quiet { (w : Words) → IsCommandLine (map string_bytes words.now) w → IsQuiet (is_streamed w.command) result → IsTrue O.tells → O.given out.new ≡ O.given out.old }
     ensures early { IsEarly result → IsTrue I.tells → I.left input.new ≡ I.left input.old }
-    ensures report { ((w : Words) → IsCommandLine (map string_bytes words.now) w → w.command ≡ Decode → ⊥) → IsTrue R.tells →
+    ensures report { ((w : Words) → IsCommandLine (map string_bytes words.now) w → w.command ≡ Decode → IsOwn result → ⊥) → IsTrue R.tells →
         GaveOrFailed (R.given report.old) (R.given report.new) (R.faults report.old) (R.faults report.new) (line_of result) }
     ensures desc_taken { IsTrue D.tells → length (D.left desc.old) ≤ length (D.left desc.new) + 1048577 }
 

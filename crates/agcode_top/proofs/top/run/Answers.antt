@@ -1,4 +1,4 @@
-use Rattle.agcode_top.proofs.AnswerLemmas.{run-usage, run-desc_fault, run-input_fault, run-out_fault, run-report_fault, run-descriptor, run-encode, run-repair, run-reading, run-complete, run-answer, run-front, run-quiet, run-early, run-report}
+use Rattle.agcode_top.proofs.AnswerLemmas.{run-usage, run-desc_fault, run-input_fault, run-out_fault, run-report_fault, run-descriptor, run-encode, run-repair, run-reading, run-complete, run-answer, run-front, run-quiet, run-early, run-report, run-encoded, run-decoded}
 use Rattle.agcode_top.proofs.top.run.Goals as goal
 
 pub returns-clause-usage : goal.returns-clause-usage
@@ -45,3 +45,9 @@ returns-clause-early g c = λ q. run-early _ _ _ _ _ _ c.obey-status.ensures.obe
 
 pub returns-clause-report : goal.returns-clause-report
 returns-clause-report g c = λ n told. run-report _ _ _ _ _ _ _ _ c.obey-status.ensures.obeyed c.obey-status.ensures.report_counted c.tell.ensures.given n told
+
+pub returns-clause-encoded : goal.returns-clause-encoded
+returns-clause-encoded g c = λ w k e q told. run-encoded _ _ _ _ _ _ c.obey-status.ensures.obeyed w k e q told
+
+pub returns-clause-decoded : goal.returns-clause-decoded
+returns-clause-decoded g c = λ w k e q told. run-decoded _ _ _ _ _ _ _ _ c.obey-status.ensures.obeyed c.tell.ensures.counted c.tell.ensures.given w k e q told
