@@ -1,8 +1,8 @@
--- The passes of `dot` and `add_scaled`, one for each bit of a symbol, over plain numbers and lists.
+-- The passes of `dot`, one for each bit of a symbol, and the symbols of a multiple, over plain numbers and lists.
 use Rattle.std.proofs.Common.{◌≡◌, ℕ, zero, suc, ◌+◌, ◌*◌, ◌/◌, ◌%◌, ◌^◌, ◌<◌, ◌≤◌, List, length, get_or, sym, ap, ◌∙◌, subst, arith, bit_xor}
 use Rattle.std.proofs.Math.Nat.{mod-eq_of_lt, one-mul}
 use Rattle.std.specs.List.{All}
-use Rattle.std.specs.Int.Bits.{xor_assoc, xor_zero_r}
+use Rattle.std.specs.Int.Bits.{xor_zero_r}
 use Rattle.std.proofs.lemmas.Nat.{xor_lt, pow_below}
 use Rattle.std.proofs.lemmas.List.Elements.{All-get_or, All-from_get_or}
 use Rattle.field_theory.specs.Sums.{xor_sum}
@@ -30,23 +30,6 @@ bit_symbol-below m k l h = subst (λ (v : ℕ). v < 2 ^ m) (sym (bit_symbol m k 
 
 pub multiple_none : (m p d s : ℕ) → d ≡ bit_xor d (gf_mul m p 0 s)
 multiple_none m p d s = sym (ap (bit_xor d) (gf_mul-zero_left m p s) ∙ xor_zero_r d)
-
-pub multiple_start : (m p c d s : ℕ) → d ≡ bit_xor d (gf_mul m p c (s % 2 ^ 0))
-multiple_start m p c d s = sym (ap (bit_xor d) (gf_mul-no_bits m p c s) ∙ xor_zero_r d)
-
-pub multiple_next :
-    (m p c k d s a t r : ℕ) → k < m → m ≤ 8 → t ≡ gf_mul m p c (1 * 2 ^ k % 256)
-    → a ≡ bit_xor d (gf_mul m p c (s % 2 ^ k)) → r ≡ bit_xor a (s / 2 ^ k % 2 * t) → r ≡ bit_xor d (gf_mul m p c (s % 2 ^ (k + 1)))
-multiple_next m p c k d s a t r l h et ea er =
-    er
-    ∙ ap (λ (v : ℕ). bit_xor v (s / 2 ^ k % 2 * t)) ea
-    ∙ xor_assoc d (gf_mul m p c (s % 2 ^ k)) (s / 2 ^ k % 2 * t)
-    ∙ ap (λ (v : ℕ). bit_xor d (bit_xor (gf_mul m p c (s % 2 ^ k)) (s / 2 ^ k % 2 * v))) (et ∙ ap (gf_mul m p c) (bit_symbol m k l h))
-    ∙ ap (bit_xor d) (sym (gf_mul-next_bit m p c s k))
-
-pub multiple_end : (m p c k d s r : ℕ) → k ≡ m → s < 2 ^ m → r ≡ bit_xor d (gf_mul m p c (s % 2 ^ k)) → r ≡ bit_xor d (gf_mul m p c s)
-multiple_end m p c k d s r e l er =
-    er ∙ ap (λ (j : ℕ). bit_xor d (gf_mul m p c (s % 2 ^ j))) e ∙ ap (bit_xor d) (gf_mul-all_bits m p c s l)
 
 -- symbols plus products are symbols
 pub multiple_symbols :

@@ -7,10 +7,8 @@ use Rattle.std.proofs.lemmas.Nat.{pow_pos}
 use Rattle.field_theory.specs.Field.{IsField}
 use Rattle.field_theory.specs.Sums.{put, unit}
 use Rattle.field_theory.proofs.Sums.{mul-zero, mul_one}
-use Rattle.linear_theory.specs.Linear.{IsReduced, SameSpan, rank}
+use Rattle.linear_theory.specs.Linear.{IsReduced}
 use Rattle.linear_theory.proofs.Spans.{put-same, put-other}
-use Rattle.linear_theory.proofs.Steps.{span_rank}
-use Rattle.linear_theory.proofs.Reduced.{reduced_rank}
 use Rattle.gf_linear.specs.Cells.{cell, AreKept}
 
 -- no pivot in column j

@@ -1,5 +1,5 @@
 -- A matrix joined with the unit matrix, or with a column, and what its reduced form says
-use Rattle.std.proofs.Common.{◌≡◌, ◌≢◌, ℕ, suc, ◌+◌, ◌*◌, ◌-◌, ◌^◌, ◌<◌, ◌≤◌, List, length, get_or, sym, ◌∙◌, ap, subst, refl, inl, inr, arith, All, nat_lt}
+use Rattle.std.proofs.Common.{◌≡◌, ℕ, ◌+◌, ◌*◌, ◌-◌, ◌^◌, ◌<◌, ◌≤◌, List, length, sym, ◌∙◌, ap, subst, refl, inl, inr, arith, All, nat_lt}
 use Rattle.std.proofs.lemmas.Bool.{cases_eq, cases_lt, cond-true, cond-false, lt-ltb, ltb-true, false_from_ne_true}
 use Rattle.field_theory.specs.Field.{IsField}
 use Rattle.field_theory.specs.Sums.{unit}
@@ -7,7 +7,7 @@ use Rattle.gf_theory.specs.Field.{gf_mul, IsModulus}
 use Rattle.gf_theory.proofs.Fields.{field_of_bits}
 use Rattle.linear_theory.specs.Linear.{AreIndependent, IsReduced, SameSpan, IsDual, rank}
 use Rattle.linear_theory.proofs.Corners.{rank_rows}
-use Rattle.linear_theory.proofs.Entries.{AreSame, span_within, dual_entries}
+use Rattle.linear_theory.proofs.Entries.{span_within, dual_entries}
 use Rattle.linear_theory.proofs.Exchange.{independent_iff_rank}
 use Rattle.linear_theory.proofs.Joined.{dual_of_joined}
 use Rattle.linear_theory.proofs.Reduced.{reduced_rank}

@@ -6,6 +6,7 @@ pub mod Joins
 pub mod Multiples
 pub mod Residues
 pub mod Sides
+pub mod Sixteens
 pub mod Steps
 pub mod Views
 pub mod Writes

@@ -1,7 +1,6 @@
 -- A list plus a multiple of another, place by place; and the rows of a table that became such lists
-use Rattle.std.proofs.Common.{◌≡◌, ℕ, zero, suc, ◌+◌, ◌*◌, ◌<◌, ◌≤◌, ◌^◌, List, [], ◌∷◌, length, take, drop, get_or, sym, ◌∙◌, ap, subst, refl, arith, bit_xor, All}
-use Rattle.std.proofs.lemmas.List.{ext_get_or, get_or-drop, get_or-take}
-use Rattle.gf_theory.specs.Field.{gf_mul}
+use Rattle.std.proofs.Common.{◌≡◌, ℕ, zero, suc, ◌+◌, ◌*◌, ◌<◌, ◌^◌, List, [], ◌∷◌, length, drop, get_or, sym, ◌∙◌, ap, subst, refl, arith, bit_xor, All}
+use Rattle.std.proofs.lemmas.List.{ext_get_or, get_or-drop}
 use Rattle.linear_theory.specs.Tables.{rows_of}
 use Rattle.linear_theory.proofs.Tables.{length-rows_of, row-rows_of, length-row, entry-rows_of}
 use Rattle.ag_pool.specs.Acts.{Acted}

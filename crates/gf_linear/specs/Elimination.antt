@@ -7,7 +7,7 @@
 -- beside_column   a matrix with a column to its right
 -- plus_multiple   a list plus a multiple of another
 -- residue_of      the sum of the entries of a row at the pivots, each times the entry of a pivot's row in a column
-use Rattle.std.specs.Prelude.{◌≡◌, ℕ, ◌+◌, ◌-◌, ◌<◌, ◌^◌, List, [], ◌∷◌, length, drop, slice_index, bit_xor, All, cond, nat_lt}
+use Rattle.std.specs.Prelude.{◌≡◌, ℕ, ◌-◌, ◌<◌, ◌^◌, List, [], ◌∷◌, length, drop, slice_index, bit_xor, All, cond, nat_lt}
 use Rattle.field_theory.specs.Sums.{xor_sum, unit}
 use Rattle.gf_theory.specs.Field.{gf_mul}
 use Rattle.linear_theory.specs.Linear.{dot, AreIndependent, SameSpan, IsReduced, IsDual, IsFree}

@@ -1,3 +1,4 @@
 pub mod Matrix
 pub mod Cells
 pub mod Elimination
+pub mod Nibbles

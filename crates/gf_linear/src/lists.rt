@@ -1,12 +1,16 @@
-//! Products and multiples of lists. Both go over the lists once for each bit of a symbol, since a product is linear in
-//! each bit of a factor: the pass over the lists has no product in it, only a choice, and runs many symbols at a time.
+//! Products and multiples of lists, since a product is linear in each bit of a factor. A product of two lists is made by a
+//! pass over them for each bit of a symbol: the pass has no product in it, only a choice, and runs many symbols at a time.
+//! For a multiple the products of the factor stand in two tables of 16, by the low four bits of a symbol and by the others,
+//! and 16 symbols are looked up at once.
 
-ghost use Rattle.std.specs.Prelude.{◌≡◌, ℕ, ◌*◌, ◌/◌, ◌%◌, ◌<◌, ◌^◌, length, slice_index, bit_xor, All};
+ghost use Rattle.std.specs.Prelude.{◌≡◌, ℕ, ◌+◌, ◌*◌, ◌/◌, ◌%◌, ◌<◌, ◌≤◌, ◌^◌, length, slice_index, bit_xor, All};
 ghost use Rattle.field_theory.specs.Sums.{xor_sum};
 ghost use Rattle.linear_theory.specs.Linear.{dot as dot_of};
 ghost use Rattle.gf_theory.specs.Field.{gf_mul};
+ghost use Rattle.gf_linear.specs.Nibbles.{looked_up};
 
 use gf_field::Field;
+use std::simd::prelude::*;
 
 /// The sum of the products of two lists of symbols, place by place. It makes one product for each bit of a symbol.
 pub fn dot<F: Field>(f: &F, x: &[u8], y: &[u8]) -> u8
@@ -24,7 +28,8 @@ pub fn dot<F: Field>(f: &F, x: &[u8], y: &[u8]) -> u8
     sum
 }
 
-/// Adds `c` times `src` to `dst`, place by place. It makes one product for each bit of a symbol.
+/// Adds `c` times `src` to `dst`, place by place. It makes a product for each value of the low four bits of a symbol, and
+/// one for each of the bits above them.
 pub fn add_scaled<F: Field>(f: &F, dst: &mut [u8], c: u8, src: &[u8])
     requires same { length dst.old ≡ length src.now }
     requires factor { c < 2 ^ F.bits_of f.now }
@@ -36,10 +41,9 @@ pub fn add_scaled<F: Field>(f: &F, dst: &mut [u8], c: u8, src: &[u8])
     if c == 0 {
         return;
     }
-    for bit in 0..f.bits() {
-        let term = f.mul(c, 1 << bit);
-        add_where(dst, term, src, bit);
-    }
+    let low = low_multiples(f, c);
+    let high = high_multiples(f, c);
+    add_multiples(dst, &low, &high, src);
 }
 
 // `term` where this bit of `symbol` is set, else 0.
@@ -63,14 +67,100 @@ fn sum_where(x: &[u8], bit: u32, y: &[u8]) -> u8
     sum
 }
 
-// Adds `term` to `dst` at the places where `src` has this bit set.
-fn add_where(dst: &mut [u8], term: u8, src: &[u8], bit: u32)
+// The products of c and the symbols below 16.
+fn low_multiples<F: Field>(f: &F, c: u8) -> [u8; 16]
+    requires { c < 2 ^ F.bits_of f.now }
+    ensures length { length result ≡ 16 }
+    ensures products { (i : ℕ) → i < 16 → i < 2 ^ F.bits_of f.now → slice_index result i ≡ gf_mul (F.bits_of f.now) (F.modulus_of f.now) c i }
+{
+    let mut table = [0; 16];
+    let count = (1usize << f.bits()).min(16);
+    for i in 0..count {
+        table[i] = f.mul(c, i as u8);
+    }
+    table
+}
+
+// The products of c and the multiples of 16 that are symbols.
+fn high_multiples<F: Field>(f: &F, c: u8) -> [u8; 16]
+    requires { c < 2 ^ F.bits_of f.now }
+    ensures length { length result ≡ 16 }
+    ensures products { (i : ℕ) → i * 16 < 2 ^ F.bits_of f.now → slice_index result i ≡ gf_mul (F.bits_of f.now) (F.modulus_of f.now) c (i * 16) }
+{
+    let mut table = [0; 16];
+    let size = 1usize << f.bits();
+    for i in 0..(size + 15) / 16 {
+        table[i] = f.mul(c, (i * 16) as u8);
+    }
+    table
+}
+
+// Adds to each byte of `dst` what the tables give for that of `src`.
+fn add_multiples(dst: &mut [u8], low: &[u8; 16], high: &[u8; 16], src: &[u8])
     requires same { length dst.old ≡ length src.now }
-    requires bit { bit < 8 }
+    requires low { length low.now ≡ 16 }
+    requires high { length high.now ≡ 16 }
     ensures length { length dst.new ≡ length dst.old }
-    ensures value { (p : ℕ) → p < length dst.old → slice_index dst.new p ≡ bit_xor (slice_index dst.old p) (slice_index src.now p / 2 ^ bit % 2 * term) }
+    ensures value { (p : ℕ) → p < length dst.old → slice_index dst.new p ≡ bit_xor (slice_index dst.old p) (looked_up low.now high.now (slice_index src.now p)) }
+{
+    let whole = dst.len() / 16 * 16;
+    let (front, rest) = dst.split_at_mut(whole);
+    let (front_src, rest_src) = src.split_at(whole);
+    add_sixteens(
+        front,
+        u8x16::from_array(*low),
+        u8x16::from_array(*high),
+        front_src,
+    );
+    add_singly(rest, low, high, rest_src);
+}
+
+// The same, byte by byte.
+fn add_singly(dst: &mut [u8], low: &[u8; 16], high: &[u8; 16], src: &[u8])
+    requires same { length dst.old ≡ length src.now }
+    requires low { length low.now ≡ 16 }
+    requires high { length high.now ≡ 16 }
+    ensures length { length dst.new ≡ length dst.old }
+    ensures value { (p : ℕ) → p < length dst.old → slice_index dst.new p ≡ bit_xor (slice_index dst.old p) (looked_up low.now high.now (slice_index src.now p)) }
 {
     for p in 0..dst.len() {
-        dst[p] ^= chosen(src[p], bit, term);
+        let symbol = src[p];
+        dst[p] ^= low[usize::from(symbol % 16)] ^ high[usize::from(symbol / 16)];
     }
+}
+
+// The same, 16 bytes at a time.
+fn add_sixteens(dst: &mut [u8], low: u8x16, high: u8x16, src: &[u8])
+    requires same { length dst.old ≡ length src.now }
+    requires whole { length dst.old % 16 ≡ 0 }
+    ensures length { length dst.new ≡ length dst.old }
+    ensures value { (p : ℕ) → p < length dst.old → slice_index dst.new p ≡ bit_xor (slice_index dst.old p) (looked_up low high (slice_index src.now p)) }
+{
+    for q in 0..dst.len() / 16 {
+        add_sixteen(dst, q * 16, low, high, src);
+    }
+}
+
+// The same at the 16 places from `at` on.
+fn add_sixteen(dst: &mut [u8], at: usize, low: u8x16, high: u8x16, src: &[u8])
+    requires same { length dst.old ≡ length src.now }
+    requires room { at + 16 ≤ length dst.old }
+    ensures length { length dst.new ≡ length dst.old }
+    ensures here { (i : ℕ) → i < 16 → slice_index dst.new (at + i) ≡ bit_xor (slice_index dst.old (at + i)) (looked_up low high (slice_index src.now (at + i))) }
+    ensures before { (p : ℕ) → p < at → slice_index dst.new p ≡ slice_index dst.old p }
+    ensures after { (p : ℕ) → at + 16 ≤ p → slice_index dst.new p ≡ slice_index dst.old p }
+{
+    let symbols = u8x16::from_slice(&src[at..]);
+    let sums = u8x16::from_slice(&dst[at..]) ^ look_up(low, high, symbols);
+    sums.copy_to_slice(&mut dst[at..]);
+}
+
+// What the tables give for 16 bytes.
+fn look_up(low: u8x16, high: u8x16, symbols: u8x16) -> u8x16
+    ensures width { length result ≡ 16 }
+    ensures value { (i : ℕ) → i < 16 → slice_index result i ≡ looked_up low high (slice_index symbols i) }
+{
+    let lows = low.swizzle_dyn(symbols & u8x16::splat(15));
+    let highs = high.swizzle_dyn(symbols >> u8x16::splat(4));
+    lows ^ highs
 }

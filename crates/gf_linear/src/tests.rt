@@ -55,6 +55,47 @@ fn products_of_lists(rt: HostRuntime) -> Result<(), Fail> {
     Ok(())
 }
 
+fn field_of_aes(rt: &impl Abort) -> PolyField
+    ensures { result.bits ≡ 8 }
+{
+    PolyField::new(8, 283).expect(rt, "283 is irreducible")
+}
+
+fn are_bytes(entries: &[u8]) -> bool
+    ensures { IsTrue result → All (λ a. a < 256) entries.now }
+{
+    entries.iter().all(|entry| u16::from(*entry) < 256)
+}
+
+fn add_doubles(rt: &impl Abort, f: &PolyField, sum: &mut [u8], source: &[u8])
+    requires bits { f.now.bits ≡ 8 }
+    requires same { length sum.old ≡ length source.now }
+{
+    assert!(rt; are_bytes(sum));
+    assert!(rt; are_bytes(source));
+    add_scaled(f, sum, 2, source);
+}
+
+// In the field of AES each of 57, ae, 47, 8e is followed by its double, and 07 comes last.
+#[test]
+fn multiples_of_long_lists(rt: HostRuntime) -> Result<(), Fail> {
+    let f = field_of_aes(&rt);
+    let mut source = [0x57; 35];
+    let mut sum = [0x47; 35];
+    source[1] = 0xae;
+    source[15] = 0x8e;
+    source[16] = 0x47;
+    source[34] = 0x8e;
+    add_doubles(&rt, &f, &mut sum, &source);
+    let mut expected = [0x47 ^ 0xae; 35];
+    expected[1] = 0;
+    expected[15] = 0x47 ^ 0x07;
+    expected[16] = 0x47 ^ 0x8e;
+    expected[34] = 0x47 ^ 0x07;
+    assert_eq!(rt; sum, expected);
+    Ok(())
+}
+
 #[test]
 fn ranks_and_echelons(rt: HostRuntime) -> Result<(), Fail> {
     let f = field_of_four(&rt);

@@ -1,4 +1,4 @@
-use Rattle.std.proofs.Common.{ℕ, ◌≡◌, ◌*◌, ◌^◌, ◌<◌, ◌≤◌, ◌∙◌, ap, subst, sym, length, List, All, arith}
+use Rattle.std.proofs.Common.{ℕ, ◌≡◌, ◌*◌, ◌^◌, ◌<◌, ◌∙◌, ap, subst, sym, length, List, All}
 use Rattle.std.proofs.lemmas.List.{with_items_is}
 use Rattle.gf_theory.specs.Field.{gf_mul}
 use Rattle.linear_theory.specs.Linear.{AreIndependent, IsDual}

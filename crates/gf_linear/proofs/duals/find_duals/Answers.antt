@@ -1,4 +1,4 @@
-use Rattle.std.proofs.Common.{ℕ, ◌≡◌, ◌+◌, ◌*◌, ◌^◌, ◌<◌, ◌∙◌, length, arith, All}
+use Rattle.std.proofs.Common.{◌^◌, ◌<◌, ◌∙◌, arith}
 use Rattle.std.proofs.lemmas.Nat.{pow_below}
 use Rattle.gf_theory.specs.Field.{IsModulus}
 use Rattle.gf_linear.proofs.Joins.{beside_symbols, duals_none, duals_found, duals_symbols}

@@ -1,4 +1,4 @@
-use Rattle.std.proofs.Common.{ℕ, ◌≡◌, ◌+◌, ◌<◌}
+use Rattle.std.proofs.Common.{ℕ, ◌≡◌, ◌<◌}
 use Rattle.gf_linear.specs.Cells.{cell}
 use Rattle.gf_linear.specs.Elimination.{beside_unit}
 use Rattle.gf_linear.proofs.duals.join_unit.Given as goal

@@ -1,8 +1,8 @@
-use Rattle.std.proofs.Common.{ℕ, ◌≡◌, ◌+◌, ◌*◌, ◌<◌, ◌≤◌, ◌-◌, ◌^◌, ◌++◌, ◌∙◌, length, List, arith, All}
+use Rattle.std.proofs.Common.{ℕ, ◌≡◌, ◌+◌, ◌*◌, ◌<◌, ◌≤◌, ◌-◌, ◌^◌, ◌++◌, ◌∙◌, length, arith}
 use Rattle.std.proofs.lemmas.Nat.{pow_below}
 use Rattle.linear_theory.proofs.Tables.{row_end}
 use Rattle.gf_theory.specs.Field.{IsModulus}
-use Rattle.gf_linear.proofs.Steps.{IsCut, cut_of, cut_at, cut_kept, added_row, rest_of_rows, All-cut, All-above, All-below, All-here, All-part}
+use Rattle.gf_linear.proofs.Steps.{IsCut, cut_of, cut_at, cut_kept, added_row, rest_of_rows, All-cut, All-above, All-below, All-part}
 use Rattle.gf_linear.proofs.elimination.add_row.Goals as goal
 
 pub slice_bounds-add_scaled-end : goal.slice_bounds-add_scaled-end

@@ -1,4 +1,4 @@
-use Rattle.std.proofs.Common.{◌≡◌, ◌≢◌, ◌∙◌, ℕ, ◌+◌, ◌*◌, ◌-◌, ◌^◌, ◌<◌, ◌≤◌, List, length, take, drop, get_or, arith, ap, sym}
+use Rattle.std.proofs.Common.{◌≡◌, ◌∙◌, ◌+◌, ◌*◌, ◌-◌, ◌^◌, ◌<◌, ◌≤◌, length, take, drop, arith}
 use borrow.Rule.Slice.PartMut.{put_mid}
 use Rattle.field_theory.specs.Field.{IsField}
 use Rattle.gf_theory.specs.Field.{gf_mul}
@@ -6,7 +6,7 @@ use Rattle.gf_theory.proofs.Fields.{field_of_bits}
 use Rattle.gf_theory.proofs.Product.{gf_mul_comm}
 use Rattle.linear_theory.proofs.Tables.{All-put_mid, row_end}
 use Rattle.linear_theory.proofs.Steps.{span_after_scale}
-use Rattle.gf_linear.specs.Cells.{cell, AreKept}
+use Rattle.gf_linear.specs.Cells.{cell}
 use Rattle.gf_linear.proofs.Forms.{cells_below, scaled_zeros, inverse_some}
 use Rattle.gf_linear.proofs.Steps.{IsWritten, row_written, scaled_row, written_kept, part-length}
 use Rattle.gf_linear.proofs.elimination.make_one.Goals as goal

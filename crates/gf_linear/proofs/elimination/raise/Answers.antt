@@ -1,6 +1,5 @@
-use Rattle.std.proofs.Common.{◌≡◌, ◌≢◌, ◌∙◌, ℕ, ◌^◌, ◌<◌, arith, ap, inl, inr, subst, sym, bit_xor}
+use Rattle.std.proofs.Common.{◌≡◌, ◌∙◌, ℕ, ◌^◌, arith, ap, inl, inr, subst, sym, bit_xor}
 use Rattle.std.proofs.lemmas.Bool.{cases_eq}
-use Rattle.field_theory.specs.Field.{IsField}
 use Rattle.gf_theory.specs.Field.{gf_mul}
 use Rattle.gf_theory.proofs.Fields.{field_of_bits}
 use Rattle.gf_theory.proofs.Product.{gf_mul-zero_right}

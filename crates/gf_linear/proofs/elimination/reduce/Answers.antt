@@ -1,4 +1,4 @@
-use Rattle.std.proofs.Common.{ℕ, ◌^◌}
+use Rattle.std.proofs.Common.{◌^◌}
 use Rattle.gf_theory.specs.Field.{gf_mul}
 use Rattle.gf_theory.proofs.Fields.{field_of_bits}
 use Rattle.linear_theory.proofs.Steps.{span_self, span_trans}

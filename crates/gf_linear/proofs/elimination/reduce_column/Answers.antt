@@ -1,4 +1,4 @@
-use Rattle.std.proofs.Common.{arith, refl, inl, inr, ◌≡◌, ◌∙◌, ℕ, ◌+◌, ◌*◌, ◌^◌, ◌<◌, ◌≤◌}
+use Rattle.std.proofs.Common.{arith, refl, inl, inr, ◌≡◌, ◌∙◌, ℕ, ◌^◌, ◌<◌}
 use Rattle.std.proofs.lemmas.Bool.{cases_eq}
 use Rattle.field_theory.specs.Field.{IsField}
 use Rattle.gf_theory.specs.Field.{gf_mul}
@@ -6,7 +6,7 @@ use Rattle.gf_theory.proofs.Fields.{field_of_bits}
 use Rattle.linear_theory.specs.Linear.{SameSpan}
 use Rattle.linear_theory.proofs.Steps.{span_self, span_trans, span_after_sweep}
 use Rattle.gf_linear.specs.Cells.{cell}
-use Rattle.gf_linear.proofs.Forms.{reduced_none, reduced_pivot, cells_below, cleared_entry, before_entry}
+use Rattle.gf_linear.proofs.Forms.{reduced_pivot, cells_below, cleared_entry, before_entry}
 use Rattle.gf_linear.proofs.elimination.reduce_column.Goals as goal
 
 pub returns-then-p-rows-clause-span : goal.returns-then-p-rows-clause-span

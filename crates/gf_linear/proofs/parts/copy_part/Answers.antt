@@ -1,7 +1,7 @@
-use Rattle.std.proofs.Common.{ℕ, ◌≡◌, ◌+◌, ◌*◌, ◌<◌, ◌≤◌, ◌-◌, ◌∙◌, ap, length, take, get_or, List, arith}
+use Rattle.std.proofs.Common.{ℕ, ◌≡◌, ◌+◌, ◌*◌, ◌-◌, ◌∙◌, ap, length, get_or, List, arith}
 use Rattle.std.proofs.lemmas.List.{get_or-take}
 use borrow.Rule.Slice.PartMut.{put_mid}
-use Rattle.gf_linear.specs.Matrix.{entry, row as row_of}
+use Rattle.gf_linear.specs.Matrix.{entry}
 use Rattle.gf_linear.proofs.Steps.{IsWritten, row_written, row_more, part-length}
 use Rattle.gf_linear.proofs.parts.copy_part.Goals as goal
 

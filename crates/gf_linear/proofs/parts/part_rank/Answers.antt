@@ -1,4 +1,4 @@
-use Rattle.std.proofs.Common.{ℕ, ◌≡◌, ◌*◌, ◌^◌, ◌<◌, ◌∙◌, sym, length, take, All}
+use Rattle.std.proofs.Common.{◌^◌, ◌<◌, ◌∙◌, sym, All}
 use Rattle.gf_linear.proofs.Residues.{room_part, room_rows, part_symbols, part_rank_found}
 use Rattle.gf_linear.proofs.parts.part_rank.Goals as goal
 

@@ -1,6 +1,5 @@
-use Rattle.std.proofs.Common.{ℕ, ◌≡◌, ◌+◌, ◌*◌, ◌<◌, ◌≤◌, ◌-◌, ◌^◌, ◌∙◌, sym, ap, subst, length, take, drop, get_or, bit_xor, arith, add-one}
+use Rattle.std.proofs.Common.{ℕ, ◌≡◌, ◌+◌, ◌*◌, ◌<◌, ◌-◌, ◌∙◌, sym, ap, subst, take, drop, get_or, bit_xor, arith, add-one}
 use Rattle.gf_theory.specs.Field.{gf_mul}
-use Rattle.linear_theory.specs.Linear.{IsReduced}
 use Rattle.gf_linear.specs.Cells.{cell}
 use Rattle.gf_linear.specs.Elimination.{residue_of}
 use Rattle.gf_linear.proofs.Residues.{residue_lead}

@@ -1,4 +1,4 @@
-use Rattle.std.proofs.Common.{ℕ, ◌≡◌, ◌+◌, ◌*◌, ◌<◌, ◌≤◌, ◌-◌, ◌^◌, ◌++◌, ◌∙◌, sym, ap, subst, length, List, arith, All}
+use Rattle.std.proofs.Common.{◌≡◌, ◌+◌, ◌*◌, ◌<◌, ◌^◌, ◌++◌, ◌∙◌, length, arith}
 use Rattle.gf_linear.proofs.Steps.{IsCut, cut_of, cut_at, others_cleared, rest_of_rows, All-cut, All-here}
 use Rattle.gf_linear.proofs.rows.clear_others.Goals as goal
 

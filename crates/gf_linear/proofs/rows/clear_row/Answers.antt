@@ -1,4 +1,4 @@
-use Rattle.std.proofs.Common.{ℕ, ◌≡◌, ◌<◌, ◌≤◌, ◌-◌, ◌^◌, ◌∙◌, ap, length, get_or, take, drop, arith, List}
+use Rattle.std.proofs.Common.{ℕ, ◌≡◌, ◌<◌, ◌-◌, ◌^◌, ◌∙◌, ap, length, get_or, take, drop, arith, List}
 use Rattle.std.proofs.lemmas.List.{take_rest, length-drop}
 use Rattle.linear_theory.proofs.Tables.{All-put_mid}
 use Rattle.gf_linear.proofs.Steps.{cleared_part}

@@ -1,4 +1,4 @@
-use Rattle.std.proofs.Common.{ℕ, ◌≡◌, ◌<◌, ◌≤◌, ◌^◌, length, slice_index, bit_xor, All}
+use Rattle.std.proofs.Common.{ℕ, ◌≡◌, ◌<◌, ◌≤◌, ◌^◌, slice_index, bit_xor, All}
 use Rattle.gf_theory.specs.Field.{gf_mul}
 use Rattle.gf_linear.specs.Cells.{cell}
 use Rattle.gf_linear.proofs.rows.clear_rows.Given as goal

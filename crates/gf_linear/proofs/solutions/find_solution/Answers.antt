@@ -1,4 +1,4 @@
-use Rattle.std.proofs.Common.{ℕ, ◌≡◌, ◌+◌, ◌*◌, ◌^◌, ◌<◌, ◌∙◌, length, get_or, All}
+use Rattle.std.proofs.Common.{◌^◌, ◌<◌, ◌∙◌, length, get_or}
 use Rattle.std.proofs.lemmas.Bool.{OnTrue_at, OnTrue_from, OnFalse_at, OnFalse_from}
 use Rattle.std.proofs.lemmas.List.Elements.{All-from_get_or}
 use Rattle.gf_linear.proofs.Sides.{column_symbols, sides_none, sides_solve, sides_free, sides_below}

@@ -1,4 +1,4 @@
-use Rattle.std.proofs.Common.{ℕ, ◌≡◌, ◌+◌, ◌*◌, ◌<◌, ◌-◌, ◌∙◌, length, take, drop, get_or, refl, arith}
+use Rattle.std.proofs.Common.{◌≡◌, ◌+◌, ◌*◌, ◌-◌, ◌∙◌, length, take, drop, get_or, refl, arith}
 use borrow.Rule.Slice.PartMut.{put_mid}
 use Rattle.gf_linear.specs.Cells.{cell}
 use Rattle.gf_linear.specs.Elimination.{beside_column}

@@ -1,4 +1,4 @@
-use Rattle.std.proofs.Common.{ℕ, ◌≡◌, ◌≢◌, ◌+◌, ◌*◌, ◌<◌, ◌≤◌, ◌-◌, ◌∙◌, length, take, drop, get_or, sym, subst, arith}
+use Rattle.std.proofs.Common.{ℕ, ◌≡◌, ◌+◌, ◌*◌, ◌<◌, ◌≤◌, ◌-◌, ◌∙◌, length, take, drop, get_or, sym, arith}
 use Rattle.linear_theory.specs.Linear.{IsReduced}
 use Rattle.linear_theory.proofs.Joined.{lead_is_pivot}
 use Rattle.gf_linear.specs.Cells.{cell}

@@ -1,4 +1,4 @@
-use Rattle.std.proofs.Common.{◌≡◌, ◌≢◌, ℕ, ◌*◌, ◌^◌, ◌<◌, ◌∙◌, List, length, ap, sym, subst, All, bit_xor}
+use Rattle.std.proofs.Common.{◌≡◌, ◌≢◌, ℕ, ◌^◌, ◌<◌, ◌∙◌, List, length, ap, sym, subst, All, bit_xor}
 use Rattle.std.proofs.lemmas.List.{with_items_is}
 use Rattle.gf_theory.specs.Field.{gf_mul}
 use Rattle.gf_linear.specs.Cells.{cell, AreKept}

@@ -1,4 +1,4 @@
-use Rattle.std.proofs.Common.{arith, ap, ◌∙◌, ◌≡◌, ◌+◌, ◌*◌, ◌-◌, ◌≤◌, take, drop, length, sym, List}
+use Rattle.std.proofs.Common.{arith, ap, ◌∙◌, ◌≡◌, ◌+◌, ◌*◌, ◌≤◌, take, drop, length, List}
 use Rattle.gf_linear.proofs.Views.{view-row, view-row_end}
 use Rattle.gf_linear.proofs.matrix.Matrix.row.Goals as goal
 

@@ -1,4 +1,4 @@
-use Rattle.std.proofs.Common.{arith, ◌≡◌, ◌<◌, ◌+◌, ◌*◌, length}
+use Rattle.std.proofs.Common.{arith, ◌<◌, ◌+◌, ◌*◌, length}
 use Rattle.gf_linear.proofs.Views.{view-place, view-set}
 use Rattle.gf_linear.proofs.matrix.Matrix.set.Goals as goal
 
