@@ -1,5 +1,5 @@
 //! Decodes one word of a Hermitian code again and again, after so many of its symbols were changed, and prints what the
-//! votes gave. `bench/decode/run` times it.
+//! votes gave. `bench/vote/run` times it.
 #![tactic(auto)]
 
 ghost use Rattle.std.specs.Prelude.{ℕ, ◌≡◌, ◌≢◌, ◌+◌, ◌*◌, ◌<◌, ◌≤◌, length, get_or, IsTrue, IfOk, IfSome, false};

@@ -1,0 +1,148 @@
+"""What the measures share: the built program, inputs, damage, and what a run costs."""
+
+import os
+import pathlib
+import random
+import shutil
+import subprocess
+import sys
+import tempfile
+import time
+from dataclasses import dataclass
+
+ROOT = pathlib.Path(__file__).resolve().parent.parent
+PROGRAM = ROOT / "crates/agcode_cli/out/agcode_cli"
+GNU_TIME = "/usr/bin/time"
+
+
+@dataclass(frozen=True)
+class Code:
+    """A descriptor of examples/ and the sizes that damage needs to know."""
+
+    file: pathlib.Path
+    positions: int
+    depth: int
+    symbols: int
+
+
+LARGE = Code(ROOT / "examples/hermitian-64.toml", 512, 4, 64)
+MIDDLE = Code(ROOT / "examples/hermitian-16.toml", 64, 1, 16)
+
+
+@dataclass(frozen=True)
+class Cost:
+    """Processor time and elapsed time of a run, in seconds."""
+
+    processor: float
+    elapsed: float
+
+
+def run_once(words, source, sink):
+    with open(source or os.devnull, "rb") as given, open(sink or os.devnull, "wb") as taken:
+        start = time.perf_counter()
+        child = subprocess.Popen(
+            [str(word) for word in words], stdin=given, stdout=taken, stderr=subprocess.DEVNULL
+        )
+        _, status, usage = os.wait4(child.pid, 0)
+        elapsed = time.perf_counter() - start
+    child.returncode = os.waitstatus_to_exitcode(status)
+    if child.returncode != 0:
+        sys.exit(f"{words} ended with {child.returncode}")
+    return Cost(usage.ru_utime + usage.ru_stime, elapsed)
+
+
+def cost(words, source=None, sink=None, runs=7):
+    """The least processor time and the least elapsed time of several runs."""
+    costs = [run_once(words, source, sink) for _ in range(runs)]
+    return Cost(min(c.processor for c in costs), min(c.elapsed for c in costs))
+
+
+def peak(words, source=None):
+    """The most memory that a run holds at one time, in MB."""
+    if not os.path.exists(GNU_TIME):
+        sys.exit(f"{GNU_TIME} is wanted, to measure memory")
+    with tempfile.NamedTemporaryFile("r") as told, open(source or os.devnull, "rb") as given:
+        subprocess.run(
+            [GNU_TIME, "-o", told.name, "-f", "%M", *map(str, words)],
+            stdin=given,
+            stdout=subprocess.DEVNULL,
+            stderr=subprocess.DEVNULL,
+            check=True,
+        )
+        return int(told.read()) / 1024
+
+
+def program():
+    """The built program. It is built where it is not there yet."""
+    if not PROGRAM.exists():
+        folder = PROGRAM.parent.parent
+        subprocess.run(
+            ["rt", "run", "--", "points", "data/a.toml"],
+            cwd=folder,
+            stdout=subprocess.DEVNULL,
+            check=True,
+        )
+    return PROGRAM
+
+
+def built(crate):
+    """The program of a crate of bench_, built where it is not there yet."""
+    folder = ROOT / "crates" / crate
+    path = folder / "out" / crate
+    if not path.exists():
+        words = (folder / "args").read_text().split()
+        subprocess.run(["rt", "run", "--", *words], cwd=folder, stdout=subprocess.DEVNULL, check=True)
+    return path
+
+
+def plain(source, folder):
+    """The program of a file of plain Rust, for comparison."""
+    path = pathlib.Path(folder) / "plain"
+    subprocess.run(["rustc", "-O", "-o", path, source], check=True)
+    return path
+
+
+def workspace():
+    """A folder that is removed at the end of a `with`."""
+    return tempfile.TemporaryDirectory()
+
+
+def write_file(path, size):
+    """A file of so many bytes, the same in each run."""
+    path = pathlib.Path(path)
+    path.write_bytes(random.Random(size).randbytes(size))
+    return path
+
+
+def encoded(code, source, path):
+    """The stored text of a file."""
+    run_once([program(), "encode", code.file], source, path)
+    return pathlib.Path(path)
+
+
+def damage(code, stored, count, path):
+    """The stored text with so many bytes of each codeword changed."""
+    draw = random.Random(count)
+    text = bytearray(pathlib.Path(stored).read_bytes())
+    for start in range(0, len(text), code.positions * code.depth):
+        for word in range(code.depth):
+            for position in draw.sample(range(code.positions), count):
+                text[start + position * code.depth + word] ^= draw.randrange(1, code.symbols)
+    path = pathlib.Path(path)
+    path.write_bytes(text)
+    return path
+
+
+def check_same(path, other):
+    """Ends the measure where two files differ."""
+    if pathlib.Path(path).read_bytes() != pathlib.Path(other).read_bytes():
+        sys.exit(f"{path} and {other} differ")
+
+
+def tell(what, figure, target=""):
+    """One row of the table."""
+    print(f"| {what} | {figure} | {target} |", flush=True)
+
+
+def has_rust():
+    return shutil.which("rustc") is not None
