@@ -17,16 +17,17 @@ GNU_TIME = "/usr/bin/time"
 
 @dataclass(frozen=True)
 class Code:
-    """A descriptor of examples/ and the sizes that damage needs to know."""
+    """A descriptor of examples/: its positions, codewords of a group, field and bytes of message in a group."""
 
     file: pathlib.Path
     positions: int
     depth: int
     symbols: int
+    message: int
 
 
-LARGE = Code(ROOT / "examples/hermitian-64.toml", 512, 4, 64)
-MIDDLE = Code(ROOT / "examples/hermitian-16.toml", 64, 1, 16)
+LARGE = Code(ROOT / "examples/hermitian-64.toml", 512, 4, 64, 852)
+MIDDLE = Code(ROOT / "examples/hermitian-16.toml", 64, 1, 16, 19)
 
 
 @dataclass(frozen=True)
