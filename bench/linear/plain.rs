@@ -1,63 +1,10 @@
 // The same tasks as the program bench_linear, in plain Rust: row reduction of a vector of rows, with a table of products.
+#[path = "../plain_field.rs"]
+mod plain_field;
+
+use plain_field::Field;
 use std::env;
 use std::process::exit;
-
-const ORDER: usize = 64;
-const MODULUS: u32 = 67;
-
-struct Field {
-    products: Vec<[u8; 256]>,
-    inverses: [u8; 256],
-}
-
-impl Field {
-    fn new() -> Field {
-        let mut products = vec![[0u8; 256]; ORDER];
-        let mut inverses = [0u8; 256];
-        for x in 0..ORDER {
-            for y in 0..ORDER {
-                let product = multiply(x as u32, y as u32);
-                products[x][y] = product as u8;
-                if product == 1 {
-                    inverses[x] = y as u8;
-                }
-            }
-        }
-        Field { products, inverses }
-    }
-
-    fn scale(&self, row: &mut [u8], factor: u8) {
-        let products = &self.products[factor as usize];
-        for entry in row {
-            *entry = products[*entry as usize];
-        }
-    }
-
-    fn add_scaled(&self, row: &mut [u8], factor: u8, other: &[u8]) {
-        if factor == 0 {
-            return;
-        }
-        let products = &self.products[factor as usize];
-        for (entry, add) in row.iter_mut().zip(other) {
-            *entry ^= products[*add as usize];
-        }
-    }
-}
-
-fn multiply(x: u32, y: u32) -> u32 {
-    let mut product = 0;
-    for bit in 0..6 {
-        if y >> bit & 1 == 1 {
-            product ^= x << bit;
-        }
-    }
-    for bit in (6..12).rev() {
-        if product >> bit & 1 == 1 {
-            product ^= MODULUS << (bit - 6);
-        }
-    }
-    product
-}
 
 struct Symbols {
     state: u64,

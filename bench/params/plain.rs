@@ -2,69 +2,18 @@
 // rising weight 8i + 9j, whose values at the 512 points are no combination of the values before them, and their dual lists.
 // Row reduction of a vector of rows, with a table of products.
 
-const ORDER: usize = 64;
-const MODULUS: u32 = 67;
+#[path = "../plain_field.rs"]
+mod plain_field;
 
-struct Field {
-    products: Vec<[u8; ORDER]>,
-    inverses: [u8; ORDER],
-}
+use plain_field::{Field, ORDER};
 
-impl Field {
-    fn new() -> Field {
-        let mut products = vec![[0u8; ORDER]; ORDER];
-        let mut inverses = [0u8; ORDER];
-        for x in 0..ORDER {
-            for y in 0..ORDER {
-                products[x][y] = multiply(x as u32, y as u32);
-                if products[x][y] == 1 {
-                    inverses[x] = y as u8;
-                }
-            }
-        }
-        Field { products, inverses }
-    }
-
-    fn power(&self, x: u8, exponent: usize) -> u8 {
-        (0..exponent).fold(1, |power, _| self.products[power as usize][x as usize])
-    }
-
-    fn scale(&self, row: &mut [u8], factor: u8) {
-        let products = &self.products[factor as usize];
-        for entry in row {
-            *entry = products[*entry as usize];
-        }
-    }
-
-    fn add_scaled(&self, row: &mut [u8], factor: u8, other: &[u8]) {
-        if factor == 0 {
-            return;
-        }
-        let products = &self.products[factor as usize];
-        for (entry, add) in row.iter_mut().zip(other) {
-            *entry ^= products[*add as usize];
-        }
-    }
-}
-
-fn multiply(x: u32, y: u32) -> u8 {
-    let mut product = 0;
-    for bit in 0..6 {
-        if y >> bit & 1 == 1 {
-            product ^= x << bit;
-        }
-    }
-    for bit in (6..12).rev() {
-        if product >> bit & 1 == 1 {
-            product ^= MODULUS << (bit - 6);
-        }
-    }
-    product as u8
+fn power(f: &Field, x: u8, exponent: usize) -> u8 {
+    (0..exponent).fold(1, |power, _| f.products[power as usize][x as usize])
 }
 
 fn points(f: &Field) -> Vec<(u8, u8)> {
     let all = (0..ORDER as u8).flat_map(|x| (0..ORDER as u8).map(move |y| (x, y)));
-    all.filter(|(x, y)| f.power(*y, 8) ^ y == f.power(*x, 9)).collect()
+    all.filter(|(x, y)| power(f, *y, 8) ^ y == power(f, *x, 9)).collect()
 }
 
 // The functions of weight up to 600, by weight.
@@ -115,7 +64,7 @@ fn main() {
         if labels.len() == n {
             break;
         }
-        let values = points.iter().map(|(x, y)| f.products[f.power(*x, i) as usize][f.power(*y, j) as usize]);
+        let values = points.iter().map(|(x, y)| f.products[power(&f, *x, i) as usize][power(&f, *y, j) as usize]);
         let mut row: Vec<u8> = values.collect();
         row.resize(2 * n, 0);
         row[n + labels.len()] = 1;

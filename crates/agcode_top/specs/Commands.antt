@@ -1,6 +1,7 @@
 -- takes_no_code      whether a command serves a curve without a code of it
 -- has_points         whether a list of points is not empty
 -- IsRefused          a command refuses what a descriptor's text means, for this cause
+-- IsRefusedPart      a command refuses the parts that such a text describes, for this cause
 -- Accepts            a command accepts a descriptor's text, which describes these parts
 -- IsInputTold        the bytes of the input are told, where a command reads them
 -- IsNoWord           an input is longer or shorter than a word; what was taken of it
@@ -18,7 +19,6 @@
 -- Says               how a command ends, with its text on out, by the words, the parts of the descriptor and the bytes of the
 --                    input
 -- IsNearCode         an input of n bytes that a codeword is near
--- IsRefusedPart      .. or refuses what it describes
 use Rattle.std.specs.Prelude.{◌≡◌, ◌≢◌, ℕ, ◌+◌, ◌<◌, ◌≤◌, min, Bool, true, false, List, [], length, codes, IsTrue}
 use Rattle.std.specs.List.{flat_map}
 use Rattle.ag_texts.specs.Lines.{plain_line_of, number_line_of, point_line_of}
