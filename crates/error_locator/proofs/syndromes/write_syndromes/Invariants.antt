@@ -1,0 +1,11 @@
+use Rattle.std.proofs.Common.{ℕ, ◌≡◌, ◌<◌, ◌^◌, true, slice_index}
+use Rattle.order_theory.specs.Basis.{times}
+use Rattle.order_theory.specs.Errors.{syndrome}
+use Rattle.order_theory.specs.Codes.{marked}
+use Rattle.error_locator.proofs.syndromes.write_syndromes.Given as goal
+
+abbrev pub invariant-loop-k : goal.invariant-loop-k
+invariant-loop-k g l = record {
+  symbols : (q : ℕ) → q < l.k → slice_index l.syndromes q < 2 ^ l.basis.bits;
+  at : (q : ℕ) → q < l.k → marked l.checked q ≡ true → slice_index l.syndromes q ≡ syndrome (times l.basis) l.basis l.list q;
+}

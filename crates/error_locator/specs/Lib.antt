@@ -1,0 +1,4 @@
+pub mod Rows
+pub mod Syndromes
+pub mod Rooms
+pub mod Additions
