@@ -1,10 +1,12 @@
 -- BenchState    what contracts see of a bench: what it keeps of its code, and the ledger
 -- is_near       whether a verdict names a codeword
+-- FitsLocator   a locator is for lists of the length and the symbols of a voter
 -- state_of      the state of a bench with this voter: the voter's ledger where it is told, and else none
-use Rattle.std.specs.Prelude.{Bool, true, false, cond, List, []}
+use Rattle.std.specs.Prelude.{◌≡◌, Bool, true, false, cond, List, []}
 use Rattle.coded_block.specs.Codes.{BenchNumbers}
 use Rattle.coded_block.specs.declared.Verdict.{Verdict}
 use Rattle.coded_block.specs.declared.Verdict.TheVariants.{Near, Beyond}
+use Rattle.error_locator.specs.Rooms.{LocatorState}
 use Rattle.vote_core.specs.declared.ledger.VoteLine.{VoteLine}
 use Rattle.vote_core.specs.Voters.{VoterState}
 
@@ -15,6 +17,9 @@ pub record BenchState : Type 0 where
 abbrev pub is_near : Verdict → Bool
 is_near (Near changes) = true
 is_near Beyond = false
+
+abbrev pub FitsLocator : LocatorState → VoterState → Type 0
+FitsLocator l v = l ≡ record { bits = v.bits; n = v.n }
 
 abbrev pub state_of : VoterState → Bool → BenchState
 state_of v told = record {

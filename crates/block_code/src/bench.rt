@@ -8,8 +8,9 @@ ghost use Rattle.block_code.specs.Compiled.{IsMade, numbers_of};
 ghost use Rattle.block_code.specs.Decoding.{IsVerdict, ledger_after};
 
 use crate::code::Code;
-use crate::correction::find_near;
+use crate::correction::{find_near, repair_near};
 use coded_block::Verdict;
+use error_locator::Locator;
 use gf_field::Field;
 use std::alloc::{AllocError, Global};
 use std::marker::Model;
@@ -19,7 +20,8 @@ use vote_core::{VoteLine, Voter};
 #[derive(Drop)]
 pub struct Bench {
     voter: Voter,
-    // whether the last block was near a codeword
+    locator: Locator,
+    // whether the last block was near a codeword, and its ledger was asked for
     told: bool,
 }
 
@@ -28,9 +30,11 @@ impl Model for Bench {
 
     ghost Value = { BenchState };
 
-    ghost use Rattle.block_code.specs.Benches.{state_of};
+    ghost use Rattle.block_code.specs.Benches.{state_of, FitsLocator};
 
     ghost view = { λ s. state_of s.voter s.told };
+
+    ghost invariant = { λ s. FitsLocator s.locator s.voter };
 }
 
 fn is_near(verdict: Verdict) -> bool
@@ -48,11 +52,16 @@ impl Bench {
         ensures { IfOk result (λ b. b ≡ record { numbers = numbers_of code.now; ledger = [] }) }
     {
         let voter = Voter::new(alloc, code.basis(), code.checked(), code.radius())?;
-        Ok(Bench { voter, told: false })
+        let locator = Locator::new(alloc, code.basis(), code.radius())?;
+        Ok(Bench {
+            voter,
+            locator,
+            told: false,
+        })
     }
 
-    /// After Near one line for each member that is not checked, in rising order, with more right candidates than wrong
-    /// ones. Empty after Beyond and before the first block.
+    /// After `Code::decode_block` and Near one line for each member that is not checked, in rising order, with more right
+    /// candidates than wrong ones. Empty after Beyond, after `Code::repair_block` and before the first block.
     pub fn ledger(&self) -> &[VoteLine]
         ensures { result.now ≡ self.now.ledger }
     {
@@ -77,5 +86,23 @@ impl Bench {
         let verdict = find_near(&mut self.voter, code, got, word);
         self.told = is_near(verdict);
         verdict
+    }
+
+    // As `Code::repair_block` says.
+    pub(crate) fn repair<F: Field>(
+        &mut self,
+        code: &Code<F>,
+        got: &[u8],
+        word: &mut [u8],
+    ) -> Verdict
+        requires fits { self.old.numbers ≡ numbers_of code.now }
+        requires received { length got.now ≡ code.now.basis.n }
+        requires positions { length word.old ≡ code.now.basis.n }
+        ensures verdict { IsVerdict code.now got.now word.new result }
+        ensures bench { self.new ≡ record self.old { ledger = [] } }
+        ensures made { IsMade code.now }
+    {
+        self.told = false;
+        repair_near(&mut self.voter, &mut self.locator, code, got, word)
     }
 }

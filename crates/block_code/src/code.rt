@@ -1,6 +1,6 @@
 //! The code and its calls.
 
-ghost use Rattle.std.specs.Prelude.{ℕ, ◌≡◌, ◌+◌, ◌<◌, ◌≤◌, ◌*◌, List, All, length, count_by, slice_index, IfOk, Err};
+ghost use Rattle.std.specs.Prelude.{ℕ, ◌≡◌, ◌+◌, ◌<◌, ◌≤◌, ◌*◌, [], List, All, length, count_by, slice_index, IfOk, Err};
 ghost use Rattle.order_theory.specs.Basis.{IsWord, IsSoundBasis};
 ghost use Rattle.order_theory.specs.Codes.{IsRadius};
 ghost use Rattle.order_domain.specs.Domain.{ArePoints};
@@ -211,5 +211,18 @@ impl<F: Field> Code<F> {
         ensures made { IsMade self.now }
     {
         bench.decode(self, got, word)
+    }
+
+    /// As `decode_block`, but no ledger is made: the bench has none afterwards. It costs in proportion to the error, but
+    /// for the rare errors that it takes a vote to find.
+    pub fn repair_block(&self, bench: &mut Bench, got: &[u8], word: &mut [u8]) -> Verdict
+        requires fits { bench.old.numbers ≡ numbers_of self.now }
+        requires received { length got.now ≡ self.now.basis.n }
+        requires positions { length word.old ≡ self.now.basis.n }
+        ensures verdict { IsVerdict self.now got.now word.new result }
+        ensures bench { bench.new ≡ record bench.old { ledger = [] } }
+        ensures made { IsMade self.now }
+    {
+        bench.repair(self, got, word)
     }
 }

@@ -42,7 +42,7 @@ impl<F: Field> BlockCode for Code<F> {
     }
 
     fn decode_block(&self, bench: &mut Bench, got: &[u8], word: &mut [u8]) -> Verdict {
-        Code::decode_block(self, bench, got, word)
+        Code::repair_block(self, bench, got, word)
     }
 
     fn message(&self, word: &[u8], msg: &mut [u8]) {

@@ -3,13 +3,14 @@
 ghost use Rattle.std.specs.Prelude.{ℕ, ◌≡◌, ◌≢◌, ◌+◌, ◌<◌, ◌≤◌, true, length, List, All};
 ghost use Rattle.order_theory.specs.Basis.{IsSoundBasis};
 ghost use Rattle.order_theory.specs.Codes.{low_bits, list_sum, distance};
-ghost use Rattle.block_code.specs.Benches.{state_of};
+ghost use Rattle.block_code.specs.Benches.{state_of, FitsLocator};
 ghost use Rattle.block_code.specs.Compiled.{IsMade, numbers_of};
 ghost use Rattle.block_code.specs.Decoding.{IsVerdict, ledger_after};
 ghost use Rattle.block_code.specs.Settling.{IsSettled};
 
 use crate::code::Code;
 use coded_block::Verdict;
+use error_locator::Locator;
 use gf_field::Field;
 use vote_core::{Found, Voter};
 
@@ -92,4 +93,35 @@ pub fn find_near<F: Field>(
             Verdict::Beyond
         }
     }
+}
+
+/// As `Code::repair_block` says, with the voter and the locator of a bench: the error is located where that goes, and voted
+/// on where it does not.
+pub fn repair_near<F: Field>(
+    voter: &mut Voter,
+    locator: &mut Locator,
+    code: &Code<F>,
+    got: &[u8],
+    word: &mut [u8],
+) -> Verdict
+    requires fits { (state_of voter.old true).numbers ≡ numbers_of code.now }
+    requires locator { FitsLocator locator.old voter.old }
+    requires received { length got.now ≡ code.now.basis.n }
+    requires positions { length word.old ≡ code.now.basis.n }
+    ensures verdict { IsVerdict code.now got.now word.new result }
+    ensures rest { voter.new ≡ record voter.old { ledger = voter.new.ledger } }
+    ensures locator { locator.new ≡ locator.old }
+    ensures made { IsMade code.now }
+{
+    if locator.locate(
+        code.field(),
+        code.basis(),
+        code.checked(),
+        code.radius(),
+        got,
+        word,
+    ) {
+        return settle(code.bits(), code.radius(), got, word);
+    }
+    find_near(voter, code, got, word)
 }
