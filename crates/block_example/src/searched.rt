@@ -5,6 +5,7 @@ ghost use Rattle.std.specs.Prelude.{◌≤◌};
 use crate::tests::{compiled_at, points};
 use block_code::{Bench, Code, Verdict};
 use cab_curve::Point;
+use error_locator::Locator;
 use gf_field::PolyField;
 use search_decoder::near_by_search;
 use std::alloc::{AllocError, Global};
@@ -21,6 +22,34 @@ fn decoded(alloc: Global, code: &Code<PolyField>, got: &[u8]) -> Option<Answer> 
     let mut word = got.to_vec(alloc).ok()?;
     let verdict = code.decode_block(&mut bench, got, &mut word);
     Some((verdict, word))
+}
+
+fn repaired(alloc: Global, code: &Code<PolyField>, got: &[u8]) -> Option<Answer> {
+    if code.n() as usize != got.len() {
+        return None;
+    }
+    let mut bench = Bench::new(alloc, code).ok()?;
+    let mut word = got.to_vec(alloc).ok()?;
+    let verdict = code.repair_block(&mut bench, got, &mut word);
+    bench.ledger().is_empty().then_some((verdict, word))
+}
+
+// Whether the locator finds the error of a block.
+fn is_located(alloc: Global, code: &Code<PolyField>, got: &[u8]) -> Option<bool> {
+    if code.n() as usize != got.len() {
+        return None;
+    }
+    let mut locator = Locator::new(alloc, code.basis(), code.radius()).ok()?;
+    let mut err = got.to_vec(alloc).ok()?;
+    let t = code.radius();
+    Some(locator.locate(
+        code.field(),
+        code.basis(),
+        code.checked(),
+        t,
+        got,
+        &mut err,
+    ))
 }
 
 fn searched(alloc: Global, code: &Code<PolyField>, got: &[u8]) -> Option<Answer> {
@@ -71,6 +100,12 @@ fn damaged(alloc: Global, sent: &[u8], error: u32) -> Result<Vec<u8>, AllocError
     Ok(got)
 }
 
+// Whether both ways to decode a block say what the search says.
+fn agree(alloc: Global, code: &Code<PolyField>, got: &[u8]) -> Option<bool> {
+    let answer = searched(alloc, code, got)?;
+    Some(decoded(alloc, code, got)? == answer && repaired(alloc, code, got)? == answer)
+}
+
 // How many errors were tried on a codeword, where decoder and search say the same after each.
 fn agreed(alloc: Global, code: &Code<PolyField>, sent: &[u8]) -> Option<usize> {
     if code.n() as usize != sent.len() || sent.len() > 8 {
@@ -79,7 +114,7 @@ fn agreed(alloc: Global, code: &Code<PolyField>, sent: &[u8]) -> Option<usize> {
     let tried = errors(alloc, sent.len() as u32, code.radius().saturating_add(1)).ok()?;
     for error in tried.as_slice() {
         let got = damaged(alloc, sent, *error).ok()?;
-        if decoded(alloc, code, &got)? != searched(alloc, code, &got)? {
+        if !agree(alloc, code, &got)? {
             return None;
         }
     }
@@ -110,5 +145,32 @@ fn decodes_as_the_search_does(rt: HostRuntime) -> Result<(), Fail> {
         assert_eq!(rt; code.radius(), radius);
         assert_eq!(rt; agreed(alloc, &code, sent), Some(count));
     }
+    Ok(())
+}
+
+// How many errors of at most one symbol on a codeword are located.
+fn located(alloc: Global, code: &Code<PolyField>, sent: &[u8]) -> Option<u32> {
+    if code.n() as usize != sent.len() || sent.len() > 8 {
+        return None;
+    }
+    let tried = errors(alloc, sent.len() as u32, 1).ok()?;
+    let mut count: u32 = 0;
+    for error in tried.as_slice() {
+        let got = damaged(alloc, sent, *error).ok()?;
+        count = count.wrapping_add(u32::from(is_located(alloc, code, &got)?));
+    }
+    Some(count)
+}
+
+// One wrong symbol is at a zero of the function x - a, where a is its first coordinate, and one point more has that
+// coordinate; at two points with different second coordinates the checked functions 1 and y tell both symbols.
+#[test]
+fn locates_each_error_of_one_symbol(rt: HostRuntime) -> Result<(), Fail> {
+    let alloc = rt.alloc();
+    let code = compiled_at(&rt, alloc, &points(), 5)
+        .ok_or("no domain")?
+        .ok()
+        .ok_or("no code")?;
+    assert_eq!(rt; located(alloc, &code, &[2, 0, 0, 2, 3, 1, 2, 0]), Some(1 + 24));
     Ok(())
 }

@@ -39,7 +39,7 @@ pub struct Filling {
     pub tail: Tail,
 }
 
-/// As few groups as hold a codeword for each worker, with a slot for each of their codewords.
+/// As few groups as hold enough codewords for the workers, with a slot for each of their codewords.
 #[derive(Drop)]
 pub struct Window<B: BlockBench> {
     layout: Layout,
@@ -74,7 +74,7 @@ impl<B: BlockBench> Window<B> {
         ensures layout { IfOk result (λ w. w.layout ≡ layout) }
         ensures slots { IfOk result (λ w. All (CanDecode (C.form code.now) (C.numbers code.now)) w.slots) }
     {
-        let groups = workers.div_ceil(layout.depth) as usize;
+        let groups = codewords_for(workers).div_ceil(layout.depth) as usize;
         let bytes = layout.group_bytes() as usize;
         let slots = new_slots(alloc, code, groups * layout.depth as usize)?;
         let group = vec![in alloc; 0u8; bytes]?;
@@ -139,6 +139,21 @@ impl<B: BlockBench> Window<B> {
         let depth = self.layout.depth as usize;
         let at = group * depth;
         &self.slots[at..at + depth]
+    }
+}
+
+/// How many codewords a window has at the least. A worker takes some time to start, so where there are several, each gets
+/// a few codewords in turn; a single one decodes group by group.
+fn codewords_for(workers: u32) -> u32
+    requires least { 1 ≤ workers }
+    requires most { workers ≤ 64 }
+    ensures enough { workers ≤ result }
+    ensures few { result ≤ 64 }
+{
+    if workers == 1 {
+        1
+    } else {
+        (8 * workers).min(64)
     }
 }
 
