@@ -1,3 +1,4 @@
 pub mod Certificates
 pub mod Example
+pub mod Symbols
 pub mod Votes

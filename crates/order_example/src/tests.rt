@@ -37,7 +37,7 @@ fn built<X: Threads + Sync, F: Field + Sync, D: OrderDomain>(
 }
 
 // The basis of a curve with the weights 2 and 3 over GF(4).
-fn on_curve<X: Threads + Sync>(
+pub fn on_curve<X: Threads + Sync>(
     rt: &X,
     alloc: Global,
     terms: [Term; 3],
@@ -53,11 +53,11 @@ fn on_curve<X: Threads + Sync>(
 }
 
 // y² + y = x³
-fn small_terms() -> [Term; 3] {
+pub fn small_terms() -> [Term; 3] {
     [term(0, 2, 1), term(0, 1, 1), term(3, 0, 1)]
 }
 
-fn small_points() -> [Point; 8] {
+pub fn small_points() -> [Point; 8] {
     [
         point(0, 0),
         point(0, 1),

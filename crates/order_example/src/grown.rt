@@ -1,0 +1,143 @@
+//! The matrix that grows along sums beside the ranks of its parts, each from scratch.
+
+ghost use Rattle.std.specs.Prelude.{◌≡◌, ◌<◌, length, All, IsTrue};
+ghost use Rattle.gf_linear.specs.Matrix.{IsOver};
+
+use gf_field::PolyField;
+use gf_linear::{Matrix, part_rank, part_residue};
+use std::alloc::{AllocError, Global};
+use std::test::Fail;
+use vote_matrix::Growing;
+
+fn are_symbols(list: &[u8]) -> bool
+    ensures { IsTrue result → All (λ x. x < 4) list.now }
+{
+    list.iter().all(|x| *x < 4)
+}
+
+// Whether the entries are symbols of two bits.
+fn holds_symbols(m: &Matrix) -> bool
+    ensures { IsTrue result → IsOver 2 m.now }
+{
+    for i in 0..m.rows() {
+        if !are_symbols(m.row(i)) {
+            return false;
+        }
+    }
+    true
+}
+
+// Whether (i, j) is a candidate by the ranks of three parts; where it is one, whether both have the same value that keeps
+// the rank.
+fn agrees_before(
+    f: &PolyField,
+    m: &Matrix,
+    room: &mut Matrix,
+    growing: &Growing,
+    i: u32,
+    j: u32,
+) -> bool
+    requires bits { f.now.bits ≡ growing.now.bits }
+    requires modulus { f.now.modulus ≡ growing.now.modulus }
+    requires symbols { IsOver f.now.bits m.now }
+    requires three { growing.now.n ≡ 3 }
+    requires row { i < 3 }
+    requires column { j < 3 }
+    requires rows { length m.now.rows ≡ 3 }
+    requires cols { m.now.cols ≡ 3 }
+    requires room_rows { length room.old.rows ≡ 3 }
+    requires room_cols { room.old.cols ≡ 3 }
+    ensures room_rows { length room.new.rows ≡ 3 }
+    ensures room_cols { room.new.cols ≡ 3 }
+{
+    if !growing.is_next(i, j) {
+        return false;
+    }
+    let before = part_rank(f, m, i, j, room);
+    let row = part_rank(f, m, i + 1, j, room);
+    let column = part_rank(f, m, i, j + 1, room);
+    if row != before {
+        return !growing.candidate(i, j);
+    }
+    if column != before {
+        return !growing.candidate(i, j);
+    }
+    growing.candidate(i, j) && growing.residue(f, i, j) == part_residue(f, m, i, j, room)
+}
+
+// Whether the pivots are those that the ranks tell once (i, j) is settled: those of the rows above, and one more where row i
+// adds to the rank as far as column j.
+fn agrees_after(
+    f: &PolyField,
+    m: &Matrix,
+    room: &mut Matrix,
+    growing: &Growing,
+    i: u32,
+    j: u32,
+) -> bool
+    requires symbols { IsOver f.now.bits m.now }
+    requires row { i < 3 }
+    requires column { j < 3 }
+    requires rows { length m.now.rows ≡ 3 }
+    requires cols { m.now.cols ≡ 3 }
+    requires room_rows { length room.old.rows ≡ 3 }
+    requires room_cols { room.old.cols ≡ 3 }
+    ensures room_rows { length room.new.rows ≡ 3 }
+    ensures room_cols { room.new.cols ≡ 3 }
+{
+    let above = part_rank(f, m, i, 3, room);
+    let without = part_rank(f, m, i, j + 1, room);
+    let with = part_rank(f, m, i + 1, j + 1, room);
+    u64::from(growing.pivots()) + u64::from(without) == u64::from(above) + u64::from(with)
+}
+
+// Whether both agree before and after each entry is settled, row by row.
+fn grows_alike(f: &PolyField, m: &Matrix, room: &mut Matrix, growing: &mut Growing) -> bool
+    requires bits { f.now.bits ≡ growing.old.bits }
+    requires modulus { f.now.modulus ≡ growing.old.modulus }
+    requires symbols { IsOver f.now.bits m.now }
+    requires three { growing.old.n ≡ 3 }
+    requires rows { length m.now.rows ≡ 3 }
+    requires cols { m.now.cols ≡ 3 }
+    requires room_rows { length room.old.rows ≡ 3 }
+    requires room_cols { room.old.cols ≡ 3 }
+{
+    for place in 0..9 {
+        let i = place / 3;
+        let j = place % 3;
+        if !agrees_before(f, m, room, growing, i, j) {
+            return false;
+        }
+        if !growing.is_next(i, j) {
+            return false;
+        }
+        growing.settle(f, i, j, m.row(i)[j as usize]);
+        if !agrees_after(f, m, room, growing, i, j) {
+            return false;
+        }
+    }
+    true
+}
+
+// The same of one matrix over the field of four elements.
+fn one_grows_alike(alloc: Global) -> Result<Option<bool>, AllocError> {
+    let Some(f) = PolyField::new(2, 7) else {
+        return Ok(None);
+    };
+    let mut m = Matrix::new(alloc, 3, 3)?;
+    m.set_row(0, &[3, 3, 3]);
+    m.set_row(1, &[3, 3, 3]);
+    m.set_row(2, &[3, 3, 0]);
+    if !holds_symbols(&m) {
+        return Ok(None);
+    }
+    let mut room = Matrix::new(alloc, 3, 3)?;
+    let mut growing = Growing::new(alloc, 2, 7, 3)?;
+    Ok(Some(grows_alike(&f, &m, &mut room, &mut growing)))
+}
+
+#[test]
+fn grows_as_the_ranks_of_parts_tell(rt: HostRuntime) -> Result<(), Fail> {
+    assert_eq!(rt; one_grows_alike(rt.alloc())?, Some(true));
+    Ok(())
+}

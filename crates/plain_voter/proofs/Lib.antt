@@ -1,0 +1,5 @@
+pub mod Grids
+pub mod Counts
+pub mod Steps
+pub mod Underway
+pub mod Errors

@@ -1,0 +1,4 @@
+pub mod Sheets
+pub mod Ballots
+pub mod Lines
+pub mod Finds
