@@ -1,9 +1,13 @@
 //! params, bound and check.
 
-use crate::descriptors::{CURVE_8, HERMITIAN_4, HERMITIAN_16, HERMITIAN_64, with, with_all_points};
-use crate::rig::plain;
+use crate::descriptors::{
+    CURVE_8, HERMITIAN_4, HERMITIAN_16, HERMITIAN_64, is_met_with, with_all_points,
+};
+use crate::rig::{Row, done, is_met, missed, plain, stopped};
 use agcode_top::Status;
+use std::alloc::Global;
 use std::test::Fail;
+use std::thread::Threads;
 
 const TABLE: &str = "agcode-bound 1
 n 8 checked 5 bound 5
@@ -19,7 +23,6 @@ label 9 8 f 1 1 1 1 1 1 1 1
 
 #[test]
 fn params_tells_the_numbers_of_the_code(rt: HostRuntime) -> Result<(), Fail> {
-    let alloc = rt.alloc();
     let few =
         "n 8\nk 7\nchecks 1\nbound 2\nt 0\nlabels 0 2 3 4 5 6 7 9\nchecked 0\nrelation 3:1 6:1\n";
     let cases = [
@@ -31,19 +34,31 @@ fn params_tells_the_numbers_of_the_code(rt: HostRuntime) -> Result<(), Fail> {
         ("weight = 1", few),
     ];
     for (weight, text) in cases {
-        let desc = with(alloc, HERMITIAN_4, "weight = 5", weight)?;
-        let left = plain(&rt, alloc, "params D", desc.as_str(), &[])?;
-        assert_eq!(rt; left.status, Status::Done);
-        assert_eq!(rt; left.out.bytes(), text.as_bytes());
-        assert_eq!(rt; left.report.bytes(), b"".as_slice());
+        let row = done("params D", HERMITIAN_4, &[], text.as_bytes());
+        let met = is_met_with(&rt, rt.alloc(), &row, "weight = 5", weight)?;
+        assert!(rt; met, "{weight}");
     }
     Ok(())
+}
+
+// Whether params begins with these numbers and ends with this relation, for all points of a curve.
+fn tells<X: Threads + Sync>(
+    rt: &X,
+    alloc: Global,
+    text: &str,
+    numbers: &str,
+    relation: &str,
+) -> Result<bool, Fail> {
+    let desc = with_all_points(rt, alloc, text)?;
+    let left = plain(rt, alloc, "params D", desc.as_str(), &[])?;
+    let told = left.out.as_slice();
+    let is_told = told.starts_with(numbers.as_bytes()) && told.ends_with(relation.as_bytes());
+    Ok(is_told && left.status == Status::Done)
 }
 
 // The numbers of larger codes, and their relations.
 #[test]
 fn params_of_larger_curves(rt: HostRuntime) -> Result<(), Fail> {
-    let alloc = rt.alloc();
     let cases = [
         (
             HERMITIAN_16,
@@ -62,32 +77,69 @@ fn params_of_larger_curves(rt: HostRuntime) -> Result<(), Fail> {
         ),
     ];
     for (text, numbers, relation) in cases {
-        let desc = with_all_points(&rt, alloc, text)?;
-        let left = plain(&rt, alloc, "params D", desc.as_str(), &[])?;
-        assert_eq!(rt; left.status, Status::Done);
-        assert!(rt; left.out.bytes().starts_with(numbers.as_bytes()));
-        assert!(rt; left.out.bytes().ends_with(relation.as_bytes()));
+        assert!(rt;
+            tells(&rt, rt.alloc(), text, numbers, relation)?,
+            "{numbers}"
+        );
     }
     Ok(())
 }
 
 #[test]
 fn bound_writes_the_table(rt: HostRuntime) -> Result<(), Fail> {
-    let alloc = rt.alloc();
-    let left = plain(&rt, alloc, "bound D", HERMITIAN_4, &[])?;
-    assert_eq!(rt; left.status, Status::Done);
-    assert_eq!(rt; left.out.bytes(), TABLE.as_bytes());
-    assert_eq!(rt; left.report.bytes(), b"".as_slice());
+    let row = done("bound D", HERMITIAN_4, &[], TABLE.as_bytes());
+    assert!(rt; is_met(&rt, rt.alloc(), &row)?);
     Ok(())
 }
 
 #[test]
-fn check_accepts_the_table_alone(rt: HostRuntime) -> Result<(), Fail> {
-    let alloc = rt.alloc();
-    let left = plain(&rt, alloc, "check D", HERMITIAN_4, TABLE.as_bytes())?;
-    assert_eq!(rt; left.status, Status::Done);
-    assert_eq!(rt; left.out.bytes(), b"accepted bound 5\n".as_slice());
-    assert_eq!(rt; left.report.bytes(), b"".as_slice());
+fn check_accepts_the_table(rt: HostRuntime) -> Result<(), Fail> {
+    let first = Status::TableRefused { line: 1 };
+    let rows = [
+        done(
+            "check D",
+            HERMITIAN_4,
+            TABLE.as_bytes(),
+            b"accepted bound 5\n",
+        ),
+        stopped(
+            "check D",
+            HERMITIAN_4,
+            &[],
+            first,
+            "table refused at line 1\n",
+        ),
+    ];
+    assert_eq!(rt; missed(&rt, rt.alloc(), &rows)?, None);
+    Ok(())
+}
+
+// Whether check refuses the table at this line, with one piece of it replaced.
+fn is_refused<X: Threads + Sync>(
+    rt: &X,
+    alloc: Global,
+    from: &str,
+    to: &str,
+    line: u32,
+) -> Result<bool, Fail> {
+    let table = TABLE.replace(alloc, from, to)?;
+    let told = format!(in alloc; "table refused at line {line}\n")?;
+    let row = Row {
+        input: table.as_bytes(),
+        report: told.as_bytes(),
+        ..stopped(
+            "check D",
+            HERMITIAN_4,
+            &[],
+            Status::TableRefused { line },
+            "",
+        )
+    };
+    Ok(is_met(rt, alloc, &row)?)
+}
+
+#[test]
+fn check_refuses_other_tables(rt: HostRuntime) -> Result<(), Fail> {
     let cases = [
         // the form: the first line, the number of points, a mark, a symbol, a line that is missing, one too many
         ("agcode-bound 1", "agcode-bound 2", 1),
@@ -110,34 +162,27 @@ fn check_accepts_the_table_alone(rt: HostRuntime) -> Result<(), Fail> {
         ("checked 5", "checked 4", 2),
     ];
     for (from, to, line) in cases {
-        let text = with(alloc, TABLE, from, to)?;
-        let left = plain(&rt, alloc, "check D", HERMITIAN_4, text.as_bytes())?;
-        assert_eq!(rt; left.status, Status::TableRefused { line }, "{to}");
-        assert_eq!(rt; left.status.code(), 5);
-        assert_eq!(rt; left.out.bytes(), b"".as_slice());
+        assert!(rt; is_refused(&rt, rt.alloc(), from, to, line)?, "{to}");
     }
-    let left = plain(&rt, alloc, "check D", HERMITIAN_4, &[])?;
-    assert_eq!(rt; left.status, Status::TableRefused { line: 1 });
-    assert_eq!(rt;
-        left.report.bytes(),
-        b"table refused at line 1\n".as_slice()
-    );
     Ok(())
+}
+
+// Whether the table of all points of a curve is accepted like this.
+fn is_accepted<X: Threads + Sync>(
+    rt: &X,
+    alloc: Global,
+    text: &str,
+    told: &[u8],
+) -> Result<bool, Fail> {
+    let desc = with_all_points(rt, alloc, text)?;
+    let table = plain(rt, alloc, "bound D", desc.as_str(), &[])?;
+    let row = done("check D", desc.as_str(), &table.out, told);
+    Ok(is_met(rt, alloc, &row)?)
 }
 
 #[test]
 fn the_tables_of_larger_curves_are_accepted(rt: HostRuntime) -> Result<(), Fail> {
-    let alloc = rt.alloc();
-    let cases = [
-        (HERMITIAN_16, b"accepted bound 21\n".as_slice()),
-        (CURVE_8, b"accepted bound 8\n".as_slice()),
-    ];
-    for (text, line) in cases {
-        let desc = with_all_points(&rt, alloc, text)?;
-        let table = plain(&rt, alloc, "bound D", desc.as_str(), &[])?;
-        let left = plain(&rt, alloc, "check D", desc.as_str(), table.out.bytes())?;
-        assert_eq!(rt; left.status, Status::Done);
-        assert_eq!(rt; left.out.bytes(), line);
-    }
+    assert!(rt; is_accepted(&rt, rt.alloc(), HERMITIAN_16, b"accepted bound 21\n")?);
+    assert!(rt; is_accepted(&rt, rt.alloc(), CURVE_8, b"accepted bound 8\n")?);
     Ok(())
 }

@@ -1,6 +1,6 @@
 //! Descriptors. The texts with an empty list of points are filled by [`with_all_points`].
 
-use crate::rig::plain;
+use crate::rig::{Row, is_met, plain};
 use std::alloc::{AllocError, Global};
 use std::test::Fail;
 use std::thread::Threads;
@@ -56,7 +56,7 @@ pub fn with_all_points<X: Threads + Sync>(
     text: &str,
 ) -> Result<String, Fail> {
     let left = plain(rt, alloc, "points D", text, &[])?;
-    let list = String::from_utf8(left.out.bytes().to_vec(alloc)?)?;
+    let list = String::from_utf8(left.out)?;
     let mut points = String::from_str(alloc, "points = [\n")?;
     points.push_str(list.as_str())?;
     points.push_str("]")?;
@@ -66,4 +66,20 @@ pub fn with_all_points<X: Threads + Sync>(
 /// A descriptor with one piece of its text replaced.
 pub fn with(alloc: Global, text: &str, from: &str, to: &str) -> Result<String, AllocError> {
     text.replace(alloc, from, to)
+}
+
+/// Whether a row is met where one piece of [`HERMITIAN_4`] is replaced.
+pub fn is_met_with<X: Threads + Sync>(
+    rt: &X,
+    alloc: Global,
+    row: &Row,
+    from: &str,
+    to: &str,
+) -> Result<bool, AllocError> {
+    let desc = with(alloc, HERMITIAN_4, from, to)?;
+    let row = Row {
+        desc: desc.as_bytes(),
+        ..*row
+    };
+    is_met(rt, alloc, &row)
 }

@@ -1,9 +1,9 @@
 //! That the workers of decode run at the same time.
 
+use crate::decode_rows::{CHANGED_PAIR, PAIR_REPORT};
 use crate::descriptors::{HERMITIAN_4, with};
-use crate::rig::{run_through, working_ends};
+use crate::rig::{Row, done, is_met_through};
 use ag_pool::Gate;
-use agcode_top::Status;
 use std::sync::atomic::{AtomicBool, Ordering};
 use std::test::Fail;
 
@@ -37,14 +37,15 @@ impl Gate for Meeting {
 fn two_workers_decode_at_the_same_time(rt: HostRuntime) -> Result<(), Fail> {
     let alloc = rt.alloc();
     let pairs = with(alloc, HERMITIAN_4, "depth = 1", "depth = 2")?;
-    let text = [1, 1, 0, 0, 0, 0, 0, 0, 3, 0, 1, 0, 2, 0, 0, 3];
     let meeting = Meeting {
         came: [AtomicBool::new(false), AtomicBool::new(false)],
         saw: [AtomicBool::new(false), AtomicBool::new(false)],
     };
-    let all = working_ends(alloc, pairs.as_str(), &text)?;
-    let left = run_through(&rt, alloc, "decode --workers 2 D", all, &meeting)?;
-    assert_eq!(rt; left.status, Status::Done);
+    let row = Row {
+        report: PAIR_REPORT.as_bytes(),
+        ..done("decode --workers 2 D", pairs.as_str(), &CHANGED_PAIR, &[])
+    };
+    assert!(rt; is_met_through(&rt, alloc, &row, &meeting)?);
     assert!(rt; meeting.saw[0].load(Ordering::SeqCst));
     assert!(rt; meeting.saw[1].load(Ordering::SeqCst));
     Ok(())

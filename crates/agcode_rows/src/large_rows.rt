@@ -1,7 +1,7 @@
 //! Files in larger codes, with as many changes in each codeword as are repaired.
 
 use crate::descriptors::{HERMITIAN_16, HERMITIAN_64, with_all_points};
-use crate::rig::plain;
+use crate::rig::{Left, done, is_met, plain};
 use agcode_top::Status;
 use std::alloc::Global;
 use std::test::Fail;
@@ -29,7 +29,13 @@ impl Damage {
     }
 }
 
-// A file of bytes 5a is encoded, changed and decoded: it comes back, and report has so many lines, of which this is the last.
+// Whether a run is done, and report has so many lines, of which this is the last.
+fn is_told(left: &Left, lines: usize, end: &str) -> bool {
+    let told = left.report.iter().filter(|byte| **byte == b'\n').count();
+    left.status == Status::Done && told == lines && left.report.ends_with(end.as_bytes())
+}
+
+// A file of bytes 5a is encoded, changed and decoded: it comes back, and report has so many lines, of which `end` is the last.
 fn assert_repairs<X: Threads + Sync>(
     rt: &X,
     alloc: Global,
@@ -37,21 +43,14 @@ fn assert_repairs<X: Threads + Sync>(
     bytes: usize,
     damage: &Damage,
     lines: usize,
-    done: &str,
+    end: &str,
 ) -> Result<(), Fail> {
     let file = vec![in alloc; 0x5au8; bytes]?;
-    let stored = plain(rt, alloc, "encode D", desc, &file)?;
-    let mut text = stored.out.bytes().to_vec(alloc)?;
+    let mut text = plain(rt, alloc, "encode D", desc, &file)?.out;
     damage.apply(&mut text);
     for line in ["decode D", "decode --workers 8 D"] {
         let left = plain(rt, alloc, line, desc, &text)?;
-        let report = left.report.bytes();
-        let told = report.iter().filter(|byte| **byte == b'\n').count();
-        if left.status != Status::Done
-            || left.out.bytes() != file.as_slice()
-            || told != lines
-            || !report.ends_with(done.as_bytes())
-        {
+        if left.out != file || !is_told(&left, lines, end) {
             return Err(Fail::new(line));
         }
     }
@@ -68,8 +67,8 @@ fn ten_changes_in_each_word_of_64(rt: HostRuntime) -> Result<(), Fail> {
         step: 7,
         last: 63,
     };
-    let done = "\ndone bytes 200 groups 11 changed 110\n";
-    assert_repairs(&rt, alloc, desc.as_str(), 200, &damage, 111, done)
+    let end = "\ndone bytes 200 groups 11 changed 110\n";
+    assert_repairs(&rt, alloc, desc.as_str(), 200, &damage, 111, end)
 }
 
 #[test]
@@ -82,23 +81,20 @@ fn a_hundred_changes_in_each_word_of_512(rt: HostRuntime) -> Result<(), Fail> {
         step: 5,
         last: 495,
     };
-    let done = "\ndone bytes 2000 groups 3 changed 1200\n";
-    assert_repairs(&rt, alloc, desc.as_str(), 2000, &damage, 1201, done)
+    let end = "\ndone bytes 2000 groups 3 changed 1200\n";
+    assert_repairs(&rt, alloc, desc.as_str(), 2000, &damage, 1201, end)
 }
 
 #[test]
 fn a_trial_of_2000_bytes(rt: HostRuntime) -> Result<(), Fail> {
     let alloc = rt.alloc();
     let desc = with_all_points(&rt, alloc, HERMITIAN_64)?;
-    let left = plain(
-        &rt,
-        alloc,
+    let row = done(
         "trial --seed 1 --bytes 2000 D",
         desc.as_str(),
         &[],
-    )?;
-    let text = b"bytes 2000\ncodewords 12\nchanged 521\ncorrected 521\nequal yes\n";
-    assert_eq!(rt; left.status, Status::Done);
-    assert_eq!(rt; left.out.bytes(), text.as_slice());
+        b"bytes 2000\ncodewords 12\nchanged 521\ncorrected 521\nequal yes\n",
+    );
+    assert!(rt; is_met(&rt, alloc, &row)?);
     Ok(())
 }

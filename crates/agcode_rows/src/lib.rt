@@ -5,6 +5,8 @@
 #[cfg(test)]
 mod bound_rows;
 #[cfg(test)]
+mod compile_rows;
+#[cfg(test)]
 mod decode_rows;
 #[cfg(test)]
 mod descriptor_rows;
@@ -22,6 +24,8 @@ mod large_rows;
 mod member_rows;
 #[cfg(test)]
 mod rig;
+#[cfg(test)]
+mod status_rows;
 #[cfg(test)]
 mod trial_rows;
 #[cfg(test)]

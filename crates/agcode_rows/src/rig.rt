@@ -1,8 +1,7 @@
-//! Runs over memory.
+//! Runs over memory. What a run leaves is plain data, and the runs themselves are generic over their sources and sinks: so no
+//! test knows what a run ensures.
 
-ghost use Rattle.std.specs.Prelude.{◌≤◌};
-
-use ag_io::{MemSink, MemSource};
+use ag_io::{MemSink, MemSource, Sink, Source};
 use ag_pool::{Gate, OpenGate};
 use agcode_top::{Status, run};
 use std::alloc::{AllocError, Global};
@@ -12,92 +11,143 @@ use std::thread::Threads;
 #[derive(Drop)]
 pub struct Left {
     pub status: Status,
-    pub out: MemSink,
-    pub report: MemSink,
+    pub out: Vec<u8>,
+    pub report: Vec<u8>,
 }
 
-/// The sources and sinks of a run.
-#[derive(Drop)]
-pub struct Ends {
-    pub desc: MemSource,
-    pub input: MemSource,
-    pub out: MemSink,
-    pub report: MemSink,
+/// How the sources and sinks of a run behave: the most bytes that a call of a source gives, the bytes that out has room for,
+/// and the numbers of the calls that fail.
+#[derive(Clone, Copy)]
+pub struct Ends<'a> {
+    pub desc_piece: u32,
+    pub desc_fails: &'a [u64],
+    pub input_piece: u32,
+    pub input_fails: &'a [u64],
+    pub out_room: u32,
+    pub out_fails: &'a [u64],
+    pub report_fails: &'a [u64],
 }
 
-/// A source that gives pieces of so many bytes, and whose calls of these numbers fail.
-pub fn source(
-    alloc: Global,
-    bytes: &[u8],
-    fails: &[u64],
-    piece: usize,
-) -> Result<MemSource, AllocError>
-    requires { 1 ≤ piece }
-{
+/// No call fails.
+pub const WORKING: Ends<'static> = Ends {
+    desc_piece: 4096,
+    desc_fails: &[],
+    input_piece: 3,
+    input_fails: &[],
+    out_room: 1_000_000,
+    out_fails: &[],
+    report_fails: &[],
+};
+
+/// A line, a descriptor and an input, how the ends of the run on them behave, and what it has to leave.
+#[derive(Clone, Copy)]
+pub struct Row<'a> {
+    pub line: &'a str,
+    pub desc: &'a [u8],
+    pub input: &'a [u8],
+    pub ends: Ends<'a>,
+    pub status: Status,
+    pub out: &'a [u8],
+    pub report: &'a [u8],
+}
+
+/// A run that is done, with ends that work, writes these bytes and reports nothing.
+pub fn done<'a>(line: &'a str, desc: &'a str, input: &'a [u8], out: &'a [u8]) -> Row<'a> {
+    Row {
+        line,
+        desc: desc.as_bytes(),
+        input,
+        ends: WORKING,
+        status: Status::Done,
+        out,
+        report: &[],
+    }
+}
+
+/// A run that stops with this status, with ends that work, writes nothing and reports this line.
+pub fn stopped<'a>(
+    line: &'a str,
+    desc: &'a str,
+    input: &'a [u8],
+    status: Status,
+    report: &'a str,
+) -> Row<'a> {
+    Row {
+        line,
+        desc: desc.as_bytes(),
+        input,
+        ends: WORKING,
+        status,
+        out: &[],
+        report: report.as_bytes(),
+    }
+}
+
+// A source that gives pieces of so many bytes, and whose calls of these numbers fail.
+fn source(alloc: Global, bytes: &[u8], piece: u32, fails: &[u64]) -> Result<MemSource, AllocError> {
+    let piece = (piece as usize).max(1);
     Ok(MemSource::new(bytes.to_vec(alloc)?, fails.to_vec(alloc)?, piece))
 }
 
-/// A sink with room for so many bytes, whose calls of these numbers fail.
-pub fn sink(alloc: Global, room: usize, fails: &[u64]) -> Result<MemSink, AllocError> {
-    MemSink::new(alloc, room, fails.to_vec(alloc)?)
+// A sink with room for so many bytes, whose calls of these numbers fail.
+fn sink(alloc: Global, room: u32, fails: &[u64]) -> Result<MemSink, AllocError> {
+    MemSink::new(alloc, room as usize, fails.to_vec(alloc)?)
 }
 
-/// Ends that never fail.
-pub fn working_ends(alloc: Global, desc: &str, input: &[u8]) -> Result<Ends, AllocError> {
-    Ok(Ends {
-        desc: source(alloc, desc.as_bytes(), &[], 4096)?,
-        input: source(alloc, input, &[], 3)?,
-        out: sink(alloc, 1_000_000, &[])?,
-        report: sink(alloc, 1_000_000, &[])?,
-    })
-}
-
-/// The program on the words of a line, through a gate.
-pub fn run_through<X: Threads + Sync, G: Gate>(
-    rt: &X,
-    alloc: Global,
-    line: &str,
-    ends: Ends,
-    gate: &G,
-) -> Result<Left, AllocError> {
+// The words of a line.
+fn words_of(alloc: Global, line: &str) -> Result<Vec<String>, AllocError> {
     let mut words = Vec::new(alloc);
     for word in line.split_whitespace() {
         words.push(String::from_str(alloc, word)?)?;
     }
-    let Ends {
-        mut desc,
-        mut input,
-        mut out,
-        mut report,
-    } = ends;
-    let status = run(
+    Ok(words)
+}
+
+// The program on the words of a line.
+fn run_line<X: Threads + Sync, D: Source, I: Source, O: Sink, R: Sink, G: Gate>(
+    rt: &X,
+    alloc: Global,
+    line: &str,
+    desc: &mut D,
+    input: &mut I,
+    out: &mut O,
+    report: &mut R,
+    gate: &G,
+) -> Result<Status, AllocError> {
+    let words = words_of(alloc, line)?;
+    Ok(run(rt, alloc, &words, desc, input, out, report, gate))
+}
+
+// What a run through a gate leaves.
+fn left_through<X: Threads + Sync, G: Gate>(
+    rt: &X,
+    alloc: Global,
+    row: &Row,
+    gate: &G,
+) -> Result<Left, AllocError> {
+    let ends = row.ends;
+    let mut desc = source(alloc, row.desc, ends.desc_piece, ends.desc_fails)?;
+    let mut input = source(alloc, row.input, ends.input_piece, ends.input_fails)?;
+    let mut out = sink(alloc, ends.out_room, ends.out_fails)?;
+    let mut report = sink(alloc, 1_000_000, ends.report_fails)?;
+    let status = run_line(
         rt,
         alloc,
-        &words,
+        row.line,
         &mut desc,
         &mut input,
         &mut out,
         &mut report,
         gate,
-    );
+    )?;
     Ok(Left {
         status,
-        out,
-        report,
+        out: out.bytes().to_vec(alloc)?,
+        report: report.bytes().to_vec(alloc)?,
     })
 }
 
-/// The program on the words of a line.
-pub fn run_on<X: Threads + Sync>(
-    rt: &X,
-    alloc: Global,
-    line: &str,
-    ends: Ends,
-) -> Result<Left, AllocError> {
-    run_through(rt, alloc, line, ends, &OpenGate)
-}
-
-/// The program on the words of a line, with ends that never fail.
+/// What a run with ends that work leaves.
 pub fn plain<X: Threads + Sync>(
     rt: &X,
     alloc: Global,
@@ -105,5 +155,36 @@ pub fn plain<X: Threads + Sync>(
     desc: &str,
     input: &[u8],
 ) -> Result<Left, AllocError> {
-    run_on(rt, alloc, line, working_ends(alloc, desc, input)?)
+    left_through(rt, alloc, &done(line, desc, input, &[]), &OpenGate)
+}
+
+/// Whether the run of a row, through a gate, leaves what the row says.
+pub fn is_met_through<X: Threads + Sync, G: Gate>(
+    rt: &X,
+    alloc: Global,
+    row: &Row,
+    gate: &G,
+) -> Result<bool, AllocError> {
+    let left = left_through(rt, alloc, row, gate)?;
+    let is_told = left.status == row.status && left.report.as_slice() == row.report;
+    Ok(is_told && left.out.as_slice() == row.out)
+}
+
+/// Whether the run of a row leaves what the row says.
+pub fn is_met<X: Threads + Sync>(rt: &X, alloc: Global, row: &Row) -> Result<bool, AllocError> {
+    is_met_through(rt, alloc, row, &OpenGate)
+}
+
+/// The number of the first row that is not met.
+pub fn missed<X: Threads + Sync>(
+    rt: &X,
+    alloc: Global,
+    rows: &[Row],
+) -> Result<Option<usize>, AllocError> {
+    for (index, row) in rows.iter().enumerate() {
+        if !is_met(rt, alloc, row)? {
+            return Ok(Some(index));
+        }
+    }
+    Ok(None)
 }

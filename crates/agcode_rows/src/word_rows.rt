@@ -1,11 +1,10 @@
 use crate::descriptors::HERMITIAN_4;
-use crate::rig::plain;
+use crate::rig::{is_met, plain, stopped};
 use agcode_top::Status;
 use std::test::Fail;
 
 #[test]
 fn other_words_are_usage(rt: HostRuntime) -> Result<(), Fail> {
-    let alloc = rt.alloc();
     let lines = [
         "",
         "member",
@@ -23,29 +22,23 @@ fn other_words_are_usage(rt: HostRuntime) -> Result<(), Fail> {
         "decode --seed 7 D",
         "decode -- D",
     ];
+    let usage = "usage: agcode COMMAND [OPTIONS] DESC\n";
     for line in lines {
-        let left = plain(&rt, alloc, line, HERMITIAN_4, &[])?;
-        assert_eq!(rt; left.status, Status::Usage, "{line}");
-        assert_eq!(rt; left.status.code(), 64);
-        assert_eq!(rt; left.out.bytes(), b"".as_slice());
-        assert_eq!(rt;
-            left.report.bytes(),
-            b"usage: agcode COMMAND [OPTIONS] DESC\n".as_slice()
-        );
+        let row = stopped(line, HERMITIAN_4, &[], Status::Usage, usage);
+        assert!(rt; is_met(&rt, rt.alloc(), &row)?, "{line}");
     }
     Ok(())
 }
 
 #[test]
 fn options_stand_in_any_form(rt: HostRuntime) -> Result<(), Fail> {
-    let alloc = rt.alloc();
     let lines = [
         "trial --seed=007 --bytes=3 D",
         "trial --bytes 3 --seed 7 D",
         "trial --seed 18446744073709551615 --bytes 0003 D",
     ];
     for line in lines {
-        let left = plain(&rt, alloc, line, HERMITIAN_4, &[])?;
+        let left = plain(&rt, rt.alloc(), line, HERMITIAN_4, &[])?;
         assert_eq!(rt; left.status, Status::Done, "{line}");
     }
     Ok(())
