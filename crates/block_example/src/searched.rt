@@ -42,14 +42,7 @@ fn is_located(alloc: Global, code: &Code<PolyField>, got: &[u8]) -> Option<bool>
     let mut locator = Locator::new(alloc, code.basis(), code.radius()).ok()?;
     let mut err = got.to_vec(alloc).ok()?;
     let t = code.radius();
-    Some(locator.locate(
-        code.field(),
-        code.basis(),
-        code.checked(),
-        t,
-        got,
-        &mut err,
-    ))
+    Some(locator.locate(code.field(), code.basis(), code.checked(), t, got, &mut err))
 }
 
 fn searched(alloc: Global, code: &Code<PolyField>, got: &[u8]) -> Option<Answer> {
@@ -171,6 +164,9 @@ fn locates_each_error_of_one_symbol(rt: HostRuntime) -> Result<(), Fail> {
         .ok_or("no domain")?
         .ok()
         .ok_or("no code")?;
-    assert_eq!(rt; located(alloc, &code, &[2, 0, 0, 2, 3, 1, 2, 0]), Some(1 + 24));
+    assert_eq!(rt;
+        located(alloc, &code, &[2, 0, 0, 2, 3, 1, 2, 0]),
+        Some(1 + 24)
+    );
     Ok(())
 }

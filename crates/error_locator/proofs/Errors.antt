@@ -1,5 +1,5 @@
 -- When a list is the error of another
-use Rattle.std.proofs.Common.{ℕ, ◌≡◌, ◌+◌, ◌*◌, ◌%◌, ◌^◌, ◌<◌, ◌≤◌, Bool, true, List, [], ◌∷◌, zero, suc, refl, length, get_or, sym, ◌∙◌, ap, subst, arith, bit_xor, inl, inr}
+use Rattle.std.proofs.Common.{ℕ, ◌≡◌, ◌+◌, ◌*◌, ◌%◌, ◌^◌, ◌<◌, ◌≤◌, Bool, true, List, [], ◌∷◌, suc, refl, length, get_or, sym, ◌∙◌, ap, subst, arith, bit_xor, inl, inr}
 use Rattle.std.specs.Int.Bits.{xor_self}
 use Rattle.std.specs.Prelude.{replicate, All, slice_index}
 use Rattle.std.proofs.lemmas.Bool.{cases_lt}

@@ -4,7 +4,6 @@
 -- IsFinding      both, and room for the zeros
 -- IsRoom         all the room of a locator
 use Rattle.std.specs.Prelude.{◌≡◌, ◌≤◌, ℕ, ◌+◌, length}
-use Rattle.order_theory.specs.Basis.{IsWord}
 use Rattle.error_locator.specs.declared.search.Search.{Search}
 use Rattle.error_locator.specs.declared.system.System.{System}
 use Rattle.error_locator.specs.declared.locator.Finding.{Finding}

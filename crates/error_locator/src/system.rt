@@ -212,9 +212,7 @@ fn find_values<F: Field>(
     ensures rows_bits { rows.new.bits ≡ basis.now.bits }
     ensures symbols { IsTrue result → All (λ x. x < 2 ^ basis.now.bits) values.new }
 {
-    if !collect(
-        f, basis, checked, syndromes, places, rows, leads, equation,
-    ) {
+    if !collect(f, basis, checked, syndromes, places, rows, leads, equation) {
         return false;
     }
     substitute(f, rows, leads, values);

@@ -1,4 +1,4 @@
-use Rattle.std.proofs.Common.{ℕ, ◌≡◌, ◌<◌, ◌≤◌, length, get_or}
+use Rattle.std.proofs.Common.{ℕ, ◌<◌, ◌≤◌, length, get_or}
 use Rattle.error_locator.proofs.locator.find_zeros.Given as goal
 
 abbrev pub invariant-loop-p : goal.invariant-loop-p

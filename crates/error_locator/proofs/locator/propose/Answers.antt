@@ -1,4 +1,4 @@
-use Rattle.std.proofs.Common.{ℕ, ◌<◌, ◌^◌, All, ◌∙◌, sym, subst, arith, rules}
+use Rattle.std.proofs.Common.{◌^◌, ◌∙◌, rules}
 use Rattle.std.proofs.lemmas.Nat.{pow_pos}
 use Rattle.error_locator.proofs.locator.propose.Goals as goal
 
