@@ -1,3 +1,4 @@
 mod Made
 mod Membership
 mod Verdicts
+mod Again

@@ -21,6 +21,8 @@ use vote_core::{VoteLine, Voter};
 pub struct Bench {
     voter: Voter,
     locator: Locator,
+    // room for a message
+    msg: Vec<u8>,
     // whether the last block was near a codeword, and its ledger was asked for
     told: bool,
 }
@@ -30,11 +32,12 @@ impl Model for Bench {
 
     ghost Value = { BenchState };
 
-    ghost use Rattle.block_code.specs.Benches.{state_of, FitsLocator};
+    ghost use Rattle.std.specs.Prelude.{length};
+    ghost use Rattle.block_code.specs.Benches.{state_of, PartsFit};
 
     ghost view = { λ s. state_of s.voter s.told };
 
-    ghost invariant = { λ s. FitsLocator s.locator s.voter };
+    ghost invariant = { λ s. PartsFit s.locator s.voter (length s.msg.items) };
 }
 
 fn is_near(verdict: Verdict) -> bool
@@ -56,6 +59,7 @@ impl Bench {
         Ok(Bench {
             voter,
             locator,
+            msg: vec![in alloc; 0; code.n() as usize]?,
             told: false,
         })
     }
@@ -103,6 +107,13 @@ impl Bench {
         ensures made { IsMade code.now }
     {
         self.told = false;
-        repair_near(&mut self.voter, &mut self.locator, code, got, word)
+        repair_near(
+            &mut self.voter,
+            &mut self.locator,
+            &mut self.msg,
+            code,
+            got,
+            word,
+        )
     }
 }

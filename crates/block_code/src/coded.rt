@@ -51,7 +51,7 @@ impl<F: Field> BlockCode for Code<F> {
 }
 
 // Writes the symbols of a word at these places.
-fn take_places(places: &[u32], word: &[u8], msg: &mut [u8])
+pub fn take_places(places: &[u32], word: &[u8], msg: &mut [u8])
     requires same { length msg.old ≡ length places.now }
     requires within { (i : ℕ) → i < length places.now → slice_index places.now i < length word.now }
     ensures { msg.new ≡ map (slice_index word.now) places.now }

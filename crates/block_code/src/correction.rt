@@ -1,14 +1,16 @@
 //! From the error of a block to its near codeword.
 
 ghost use Rattle.std.specs.Prelude.{ℕ, ◌≡◌, ◌≢◌, ◌+◌, ◌<◌, ◌≤◌, true, length, List, All};
-ghost use Rattle.order_theory.specs.Basis.{IsSoundBasis};
-ghost use Rattle.order_theory.specs.Codes.{low_bits, list_sum, distance};
+ghost use Rattle.order_theory.specs.Basis.{times, IsSoundBasis};
+ghost use Rattle.order_theory.specs.Codes.{low_bits, list_sum, distance, IsCodeword};
+ghost use Rattle.block_theory.specs.Checks.{message_places};
 ghost use Rattle.block_code.specs.Benches.{state_of, FitsLocator};
-ghost use Rattle.block_code.specs.Compiled.{IsMade, numbers_of};
+ghost use Rattle.block_code.specs.Compiled.{checks_in, IsMade, numbers_of};
 ghost use Rattle.block_code.specs.Decoding.{IsVerdict, ledger_after};
 ghost use Rattle.block_code.specs.Settling.{IsSettled};
 
 use crate::code::Code;
+use crate::coded::take_places;
 use coded_block::Verdict;
 use error_locator::Locator;
 use gf_field::Field;
@@ -95,24 +97,46 @@ pub fn find_near<F: Field>(
     }
 }
 
-/// As `Code::repair_block` says, with the voter and the locator of a bench: the error is located where that goes, and voted
-/// on where it does not.
+/// Makes `word` the codeword that has the low bits of a block at the message places.
+fn encode_again<F: Field>(code: &Code<F>, got: &[u8], msg: &mut [u8], word: &mut [u8])
+    requires received { length got.now ≡ code.now.basis.n }
+    requires symbols { length msg.old ≡ length (message_places (checks_in code.now)) }
+    requires positions { length word.old ≡ code.now.basis.n }
+    ensures codeword { IsCodeword (times code.now.basis) code.now.basis code.now.marks word.new }
+    ensures made { IsMade code.now }
+{
+    code.n();
+    write_low_bits(code.bits(), got, word);
+    take_places(code.parity().places(), word, msg);
+    code.encode_block(msg, word);
+}
+
+/// As `Code::repair_block` says, with what a bench has. Where only check symbols are wrong, or none, encoding again gives the
+/// codeword; else the error is located, and voted on where that does not go.
 pub fn repair_near<F: Field>(
     voter: &mut Voter,
     locator: &mut Locator,
+    msg: &mut [u8],
     code: &Code<F>,
     got: &[u8],
     word: &mut [u8],
 ) -> Verdict
     requires fits { (state_of voter.old true).numbers ≡ numbers_of code.now }
     requires locator { FitsLocator locator.old voter.old }
+    requires room { length msg.old ≡ code.now.basis.n }
     requires received { length got.now ≡ code.now.basis.n }
     requires positions { length word.old ≡ code.now.basis.n }
     ensures verdict { IsVerdict code.now got.now word.new result }
     ensures rest { voter.new ≡ record voter.old { ledger = voter.new.ledger } }
     ensures locator { locator.new ≡ locator.old }
+    ensures room { length msg.new ≡ length msg.old }
     ensures made { IsMade code.now }
 {
+    encode_again(code, got, &mut msg[..code.k() as usize], word);
+    let changes = count_changes(got, word);
+    if changes <= code.radius() {
+        return Verdict::Near { changes };
+    }
     if locator.locate(
         code.field(),
         code.basis(),
