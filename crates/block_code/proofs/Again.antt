@@ -5,19 +5,11 @@ use Rattle.std.proofs.lemmas.List.{get_or-map, get_or_default, length-map}
 use Rattle.std.proofs.lemmas.Nat.{mod_below, pow_pos}
 use Rattle.order_theory.specs.Basis.{IsWord, times}
 use Rattle.order_theory.specs.Codes.{IsCodeword, low_bits}
+use Rattle.order_theory.proofs.Errors.{low_word}
 use Rattle.order_theory.proofs.Shape.{word_below}
 use Rattle.block_theory.specs.Checks.{message_places, IsMessagePlace, IsWordOf}
 use Rattle.block_theory.proofs.FromBasis.{code_is}
 use Rattle.block_code.specs.Compiled.{Compiled, checks_in, IsMade}
-
--- the low bits of bytes are symbols
-low_word : (bits n : ℕ) (bytes : List ℕ) → length bytes ≡ n → IsWord bits n (low_bits bits bytes)
-low_word bits n bytes long = record {
-  n_long = length-map bytes (λ (a : ℕ). a % 2 ^ bits) ∙ long;
-  symbols = λ p d l.
-      let low : p < length bytes = omega (arith, length-map bytes (λ (a : ℕ). a % 2 ^ bits)) in
-      subst (λ (u : ℕ). u < 2 ^ bits) (sym (get_or-map (λ (a : ℕ). a % 2 ^ bits) bytes p 0 d low)) (mod_below (get_or bytes p 0) (2 ^ bits) (pow_pos bits));
-}
 
 -- the symbols of a word at some places
 taken_word : (bits n : ℕ) (word places : List ℕ) → IsWord bits n word → IsWord bits (length places) (map (slice_index word) places)

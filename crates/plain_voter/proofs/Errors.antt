@@ -9,7 +9,7 @@ use Rattle.order_theory.specs.Basis.{Basis, IsSoundBasis, IsWord, times}
 use Rattle.order_theory.specs.Codes.{IsBound, list_sum, low_bits}
 use Rattle.order_theory.specs.Course.{IsErrorOf}
 use Rattle.order_theory.specs.Errors.{syndrome, weight}
-use Rattle.order_theory.proofs.Shape.{word_below}
+use Rattle.order_theory.proofs.Errors.{error_from}
 use Rattle.order_theory.proofs.Weights.{length-list_sum, get_or-list_sum}
 use Rattle.order_theory.proofs.Theorems.{syndrome_sum}
 use Rattle.plain_voter.specs.declared.line.PlainLine.{PlainLine}
@@ -17,38 +17,13 @@ use Rattle.plain_voter.specs.declared.plain.PlainFind.{PlainFind}
 use Rattle.plain_voter.specs.Finds.{IsFind}
 use Rattle.plain_voter.specs.Lines.{Recovers, lines_below}
 
--- the low bits of bytes are symbols
-pub low_word : (bits n : ℕ) (bytes : List ℕ) → length bytes ≡ n → IsWord bits n (low_bits bits bytes)
-low_word bits n bytes long = record {
-  n_long = length-map bytes (λ (a : ℕ). a % 2 ^ bits) ∙ long;
-  symbols = λ p d l.
-      let low : p < length bytes = omega (arith, length-map bytes (λ (a : ℕ). a % 2 ^ bits)) in
-      subst (λ (u : ℕ). u < 2 ^ bits) (sym (get_or-map (λ (a : ℕ). a % 2 ^ bits) bytes p 0 d low)) (mod_below (get_or bytes p 0) (2 ^ bits) (pow_pos bits));
-}
-
 -- a list of which all was written over
 pub written_back : {A : Type 0} (n : ℕ) (xs olds : List A) → length xs ≡ n → take n (xs ++ drop (length xs) olds) ≡ xs
 written_back n xs olds e = subst (λ (k : ℕ). take k (xs ++ drop (length xs) olds) ≡ xs) e (take-append_seam xs (drop (length xs) olds))
 
 module _ (b : Basis) (marks : List Bool) (t : ℕ) (y w : List ℕ) (lines : List PlainLine) (h : IsSoundBasis b) (yw : IsWord b.bits b.n y) (found : Recovers b marks y w lines) (bound : IsBound b marks (2 * t + 1)) where
-  -- a light list with the right syndromes at the marked members is an error
   error_found : weight w ≤ t → IsErrorOf (times b) b marks t y w
-  error_found light =
-      let long : length y ≡ length w = yw.n_long ∙ sym found.word.n_long in
-      record {
-        is_word = found.word;
-        light = light;
-        corrects = record {
-          is_word = record {
-            n_long = length-list_sum y w long ∙ yw.n_long;
-            symbols = λ p d l. subst (λ (x : ℕ). x < 2 ^ b.bits) (sym (get_or-list_sum y w p long) ∙ get_or_default (list_sum y w) p 0 d l)
-                (xor_below (2 ^ b.bits) (times b) h.sound.field (get_or y p 0) (get_or w p 0) (word_below yw p) (word_below found.word p));
-          };
-          orthogonal = λ k lk m.
-              syndrome_sum (times b) b h.sound (λ p. get_or y p 0) (λ p. get_or w p 0) (λ p. get_or (list_sum y w) p 0) k (λ p l. get_or-list_sum y w p long)
-              ∙ ap (λ (x : ℕ). bit_xor (syndrome (times b) b y k) x) (found.kept k lk m) ∙ xor_self (syndrome (times b) b y k);
-        };
-      }
+  error_found light = error_from b marks t y h yw w found.word light found.kept
 
   -- it is the only one
   error_only : (e : List ℕ) → IsErrorOf (times b) b marks t y e → e ≡ w

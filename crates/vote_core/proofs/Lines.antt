@@ -8,6 +8,7 @@ use Rattle.order_theory.specs.Basis.{Basis, IsSoundBasis, IsWord, times, label, 
 use Rattle.order_theory.specs.Errors.{weight, right_at, wrong_at}
 use Rattle.order_theory.specs.Codes.{IsBound, marked}
 use Rattle.order_theory.specs.Laws.{VotesOfNone}
+use Rattle.order_theory.proofs.Errors.{weight_of_zeros}
 use Rattle.order_theory.proofs.Theorems.{majority_law, no_error_law}
 use Rattle.vote_core.specs.declared.ledger.VoteLine.{VoteLine}
 use Rattle.vote_core.specs.Ledgers.{line_of, lines_below}
@@ -30,14 +31,6 @@ pub lines_more : (b : Basis) (marks : List Bool) (e : List ℕ) (k : ℕ) → ma
 lines_more b marks e k m =
     ap (λ (j : ℕ). lines_below b marks e j) (add-one k)
     ∙ ap (λ (ls : List VoteLine). lines_below b marks e k ++ ls) (cond-false (marked marks k) [] (line_of b e k ∷ []) m)
-
--- a list of zeros has weight 0
-pub weight_of_zeros : (e : List ℕ) → All (λ x. x ≡ 0) e → weight e ≡ 0
-weight_of_zeros [] z = refl
-weight_of_zeros (x ∷ xs) z =
-    let here : x ≡ 0 = z 0 0 (omega arith) in
-    let rest : weight xs ≡ 0 = weight_of_zeros xs (λ p d l. z (suc p) d (omega arith)) in
-    subst (λ (y : ℕ). weight (y ∷ xs) ≡ 0) (sym here) rest
 
 -- one more line is written
 pub written_more : (b : Basis) (marks : List Bool) (e : List ℕ) (k told : ℕ) (lines : List VoteLine) (line : VoteLine) → marked marks k ≡ false → told < length lines → line ≡ line_of b e k

@@ -16,15 +16,6 @@ copied_more marks now checked k mark so_far same is l =
 pub copied_length : (marks checked : List Bool) (k n : ℕ) → marks ≡ take k checked → length checked ≡ n → k ≡ n → length marks ≡ n
 copied_length marks checked k n is long e = ap length is ∙ length-take-le k checked (omega arith) ∙ e
 
--- the low bits of bytes are symbols
-pub low_word : (bits n : ℕ) (bytes : List ℕ) → length bytes ≡ n → IsWord bits n (low_bits bits bytes)
-low_word bits n bytes long = record {
-  n_long = length-map bytes (λ (a : ℕ). a % 2 ^ bits) ∙ long;
-  symbols = λ p d l.
-      let low : p < length bytes = omega (arith, length-map bytes (λ (a : ℕ). a % 2 ^ bits)) in
-      subst (λ (u : ℕ). u < 2 ^ bits) (sym (get_or-map (λ (a : ℕ). a % 2 ^ bits) bytes p 0 d low)) (mod_below (get_or bytes p 0) (2 ^ bits) (pow_pos bits));
-}
-
 -- a list of which all was written over
 pub written_back : {A : Type 0} (n : ℕ) (xs olds : List A) → length xs ≡ n → take n (xs ++ drop (length xs) olds) ≡ xs
 written_back n xs olds e = subst (λ (k : ℕ). take k (xs ++ drop (length xs) olds) ≡ xs) e (take-append_seam xs (drop (length xs) olds))

@@ -3,7 +3,8 @@ use Rattle.order_theory.specs.Basis.{IsWord}
 use Rattle.order_theory.specs.Codes.{low_bits}
 use Rattle.order_theory.specs.Errors.{weight}
 use Rattle.plain_voter.specs.Lines.{Recovers}
-use Rattle.plain_voter.proofs.Errors.{low_word, written_back, find_is}
+use Rattle.order_theory.proofs.Errors.{low_word}
+use Rattle.plain_voter.proofs.Errors.{written_back, find_is}
 use Rattle.plain_voter.proofs.plain.find_plainly.Goals as goal
 
 pub vote_on_all-requires-clause-word : goal.vote_on_all-requires-clause-word

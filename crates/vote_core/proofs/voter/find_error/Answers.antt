@@ -2,7 +2,7 @@ use Rattle.std.proofs.Common.{◌≡◌, ◌≤◌, length, sym, ap, arith, rule
 use Rattle.order_theory.specs.Basis.{times}
 use Rattle.order_theory.specs.Errors.{weight}
 use Rattle.order_theory.specs.Course.{IsErrorOf}
-use Rattle.vote_core.proofs.Courses.{error_from, error_once, error_of_none, zeros_of}
+use Rattle.order_theory.proofs.Errors.{error_from, error_once, error_of_none, zeros_of}
 use Rattle.vote_core.proofs.Settled.{advanced_none}
 use Rattle.vote_core.proofs.voter.find_error.Goals as goal
 

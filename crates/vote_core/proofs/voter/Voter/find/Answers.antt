@@ -6,7 +6,8 @@ use Rattle.vote_core.specs.declared.ledger.VoteLine.{VoteLine}
 use Rattle.vote_core.specs.Ledgers.{ledger_of}
 use Rattle.vote_core.specs.Voters.{VoterState}
 use Rattle.vote_core.proofs.Lines.{lines_won}
-use Rattle.vote_core.proofs.States.{low_word, written_back}
+use Rattle.order_theory.proofs.Errors.{low_word}
+use Rattle.vote_core.proofs.States.{written_back}
 use Rattle.vote_core.proofs.voter.Voter.find.Goals as goal
 
 pub find_error-requires-clause-word : goal.find_error-requires-clause-word
