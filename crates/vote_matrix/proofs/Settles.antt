@@ -1,9 +1,8 @@
 -- One more entry is settled
 use Rattle.std.proofs.lemmas.Bool.{cases_eq, cases_lt}
 use Rattle.std.proofs.lemmas.List.{get_or-set_same, get_or-set_other, length-set, get_or_read_under}
-use Rattle.std.proofs.Common.{◌≡◌, ◌≢◌, ◌⊎◌, ◌↔◌, ◌-◌, ℕ, suc, ◌+◌, ◌*◌, ◌<◌, ◌≤◌, ◌^◌, List, length, get_or, take, drop, ◌++◌, sym, ◌∙◌, ap, subst, refl, inl, inr, arith, bit_xor, add-one}
+use Rattle.std.proofs.Common.{◌≡◌, ◌≢◌, ◌⊎◌, ◌↔◌, ◌-◌, ℕ, suc, ◌+◌, ◌*◌, ◌<◌, ◌≤◌, ◌^◌, List, length, get_or, sym, ◌∙◌, ap, subst, refl, inl, inr, arith, bit_xor, add-one}
 use Rattle.std.proofs.Math.ListN.{set}
-use Rattle.std.proofs.Math.Seq.{take-append_seam}
 use Rattle.std.specs.Prelude.{slice_index}
 use Rattle.gf_theory.specs.Field.{gf_mul}
 use Rattle.field_theory.specs.Field.{IsField}
@@ -207,10 +206,6 @@ read_at xs i n x e l f = get_or_read_under xs i n x 0 e l (sym f)
 pub correction_at : (fb fm bits modulus n count : ℕ) (es fs rs entries factors rows : List ℕ) (i j x : ℕ) → fb ≡ bits → fm ≡ modulus → es ≡ entries → fs ≡ factors → rs ≡ rows
     → x ≡ correction (gf_mul fb fm) count (cell n es) (cell n fs) (slice_index rs) i j → x ≡ correction (gf_mul bits modulus) count (cell n entries) (cell n factors) (slice_index rows) i j
 correction_at fb fm bits modulus n count es fs rs entries factors rows i j x eb em ee ef er e = e ∙ rw (eb, em, ee, ef, er) refl
-
--- what a slice of a whole list leaves
-pub written_back : (m : ℕ) (after old : List ℕ) → length after ≡ m → take m (after ++ drop (length after) old) ≡ after
-written_back m after old e = subst (λ (k : ℕ). take k (after ++ drop (length after) old) ≡ after) e (take-append_seam after (drop (length after) old))
 
 -- the symbol 0 is no inverse's
 pub above_zero : (x : ℕ) → x ≢ 0 → 0 < x

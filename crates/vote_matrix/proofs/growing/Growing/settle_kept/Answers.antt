@@ -5,4 +5,4 @@ pub invariant_of-self : goal.invariant_of-self
 invariant_of-self c =
     let a = c.self.inside in
     let ends = ends_kept a c.self.invariant c.args.self.now c.self.view_is c.args.i c.args.j c.args.value c.requires.row c.requires.column c.requires.next c.requires.unsettled c.requires.symbol c.requires.candidate c.requires.keeps in
-    record { held = ends.0; columns = ends.1; spans = c.self.invariant.spans }
+    rw c.set.ensures (record { held = ends.0; columns = ends.1; spans = c.self.invariant.spans })
