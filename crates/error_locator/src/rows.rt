@@ -1,28 +1,30 @@
 //! A growing list of rows.
 
-ghost use Rattle.std.specs.Prelude.{ℕ, ◌≡◌, ◌+◌, ◌*◌, ◌<◌, ◌≤◌, ◌^◌, length, All, IfOk, IsTrue};
+ghost use Rattle.std.specs.Prelude.{ℕ, ◌≡◌, ◌+◌, ◌*◌, ◌<◌, ◌≤◌, ◌^◌, ◌++◌, length, All, IfOk, IsTrue, vec_len, vec_capacity};
 
 use std::alloc::{AllocError, Global};
 use std::marker::Model;
 
-/// Rows of symbols, one after the other, all of one width, in a room that does not grow.
+/// Rows of symbols, one after the other, all of one width, in a room that does not grow. Its memory is not touched before rows
+/// are in it, since rooms are made for many workers at once.
 #[derive(Drop)]
 pub struct Rows {
     bits: u32,
+    size: usize,
     width: usize,
     count: usize,
     symbols: Vec<u8>,
 }
 
 impl Model for Rows {
-    ghost use Rattle.std.specs.Prelude.{length};
+    ghost use Rattle.std.specs.Prelude.{vec_capacity};
     ghost use Rattle.error_locator.specs.Rows.{RowsState, HasRows};
 
     ghost Value = { RowsState };
 
-    ghost view = { λ s. record { bits = s.bits; width = s.width; count = s.count; size = length s.symbols.items } };
+    ghost view = { λ s. record { bits = s.bits; width = s.width; count = s.count; size = s.size } };
 
-    ghost invariant = { λ s. HasRows s.bits s.width s.count s.symbols.items };
+    ghost invariant = { λ s. HasRows s.bits s.size s.width s.count (vec_capacity s.symbols) s.symbols.items };
 }
 
 impl Rows {
@@ -32,9 +34,10 @@ impl Rows {
     {
         Ok(Rows {
             bits,
+            size,
             width: 0,
             count: 0,
-            symbols: vec![in alloc; 0; size]?,
+            symbols: Vec::with_capacity(alloc, size)?,
         })
     }
 
@@ -44,6 +47,7 @@ impl Rows {
     {
         self.width = width;
         self.count = 0;
+        self.symbols.clear();
     }
 
     /// The number of rows.
@@ -58,8 +62,7 @@ impl Rows {
         ensures few { IsTrue result → self.now.count < self.now.size }
         ensures room { IsTrue result → (self.now.count + 1) * self.now.width ≤ self.now.size }
     {
-        self.count < self.symbols.len()
-            && self.symbols.len() - self.count * self.width >= self.width
+        self.count < self.size && self.size - self.symbols.len() >= self.width
     }
 
     /// Row number `r`.
@@ -80,16 +83,16 @@ impl Rows {
         requires symbols { All (λ x. x < 2 ^ self.old.bits) row.now }
         ensures { self.new ≡ record self.old { count = self.old.count + 1 } }
     {
-        write_row(self.count * self.width, row, &mut self.symbols);
+        append(&mut self.symbols, row);
         self.count += 1;
     }
 }
 
-/// Writes a row into symbols.
-fn write_row(start: usize, row: &[u8], symbols: &mut [u8])
-    requires within { start + length row.now ≤ length symbols.old }
-    ensures symbols { (size : ℕ) → All (λ x. x < size) row.now → All (λ x. x < size) symbols.old → All (λ x. x < size) symbols.new }
-    ensures long { length symbols.new ≡ length symbols.old }
+/// Appends a row, for which there is room.
+fn append(symbols: &mut Vec<u8>, row: &[u8])
+    requires room { vec_len symbols.old + length row.now ≤ vec_capacity symbols.old }
+    ensures items { symbols.new.items ≡ symbols.old.items ++ row.now }
+    ensures capacity { vec_capacity symbols.old ≤ vec_capacity symbols.new }
 {
-    symbols[start..start + row.len()].copy_from_slice(row);
+    let _ = symbols.extend_from_slice(row);
 }

@@ -127,7 +127,7 @@ fn reduce<F: Field>(
     None
 }
 
-/// Seeks a function that vanishes at the places of the list, among the members and their sums: one whose products with the
+/// Seeks a function that vanishes at the places of the error, among the members and their sums: one whose products with the
 /// list vanish on all columns that are known. Its values are then the first half of the line.
 pub fn find_function<F: Field>(
     f: &F,
