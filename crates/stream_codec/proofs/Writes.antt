@@ -1,7 +1,7 @@
 -- What sinks were given, call by call.
 use Rattle.std.proofs.Common.{ℕ, ◌≡◌, Bool, List, [], ◌++◌, refl, sym, ap, ◌∙◌, arith, append_assoc}
 use Rattle.std.proofs.lemmas.List.{append-nil}
-use Rattle.stream_codec.specs.Giving.{GavePart, SinkView, GivesPart, Wrote, WroteSome}
+use Rattle.stream_codec.specs.Giving.{GavePart, SinkView, GivesPart, Wrote, WroteAllBut, WroteSome}
 use Rattle.stream_codec.proofs.Gifts.{rose_after, given_more, part_of_longer}
 
 pub wrote_nothing : (tells : Bool) (s : SinkView) → Wrote tells s s []
@@ -45,3 +45,32 @@ some_of_longer {tells} {a} {b} {xs} more longer w e = record {
   counted = w.counted;
   sure = w.sure;
 }
+
+-- ---- bytes that wait
+pub all_waits : (tells : Bool) (s : SinkView) (bytes waits : List ℕ) → bytes ≡ waits → WroteAllBut tells s s bytes waits
+all_waits tells s bytes waits e = record { done = []; wrote = wrote_nothing tells s; bytes_are = e }
+
+-- what waited, with more behind it
+waiting_more : (xs done waits ys : List ℕ) → xs ≡ done ++ waits → xs ++ ys ≡ done ++ (waits ++ ys)
+waiting_more xs done waits ys e = ap (λ l. l ++ ys) e ∙ append_assoc done waits ys
+
+pub all_but_more : {tells : Bool} {a b c : SinkView} {xs waits left : List ℕ} (ys whole : List ℕ) → WroteAllBut tells a b xs waits → WroteAllBut tells b c (waits ++ ys) left → whole ≡ xs ++ ys → WroteAllBut tells a c whole left
+all_but_more {tells} {a} {b} {c} {xs} {waits} {left} ys whole first then e = record {
+  done = first.done ++ then.done;
+  wrote = wrote_more (first.done ++ then.done) first.wrote then.wrote refl;
+  bytes_are = e ∙ waiting_more xs first.done waits ys first.bytes_are ∙ ap (λ l. first.done ++ l) then.bytes_are ∙ sym (append_assoc first.done then.done left);
+}
+
+pub all_but_some : {tells : Bool} {a b c : SinkView} {xs waits : List ℕ} (ys more longer : List ℕ) → WroteAllBut tells a b xs waits → WroteSome tells b c (waits ++ ys) → longer ≡ (xs ++ ys) ++ more → WroteSome tells a c longer
+all_but_some {tells} {a} {b} {c} {xs} {waits} ys more longer first then e =
+    wrote_some more longer first.wrote then (e ∙ ap (λ l. l ++ more) (waiting_more xs first.done waits ys first.bytes_are))
+
+pub all_but_none : {tells : Bool} {a b c : SinkView} {xs waits : List ℕ} → WroteAllBut tells a b xs waits → Wrote tells b c waits → Wrote tells a c xs
+all_but_none {tells} {a} {b} {c} {xs} {waits} first then = wrote_more xs first.wrote then first.bytes_are
+
+pub none_but_some : {tells : Bool} {a b c : SinkView} {xs waits : List ℕ} → WroteAllBut tells a b xs waits → WroteSome tells b c waits → WroteSome tells a c xs
+none_but_some {tells} {a} {b} {c} {xs} {waits} first then = wrote_some [] xs first.wrote then (first.bytes_are ∙ sym (append-nil (first.done ++ waits)))
+
+-- more bytes behind a front
+pub behind : (front xs ys whole : List ℕ) → whole ≡ xs ++ ys → front ++ whole ≡ (front ++ xs) ++ ys
+behind front xs ys whole e = ap (λ l. front ++ l) e ∙ sym (append_assoc front xs ys)

@@ -2,11 +2,12 @@
 
 ghost use Rattle.std.specs.Prelude.{ℕ, ◌≡◌, ◌<◌, ◌≤◌, ◌^◌, ◌++◌, List, length, All, map, MatchResult};
 ghost use Rattle.ag_texts.specs.Lines.{done_line_of};
-ghost use Rattle.stream_codec.specs.Giving.{Wrote, WroteSome};
+ghost use Rattle.stream_codec.specs.Giving.{Wrote, WroteSome, WroteAllBut};
 ghost use Rattle.stream_codec.specs.Report.{place_changes, changes_from, lines_of};
 ghost use Rattle.stream_codec.specs.Slots.{blocks_of, words_of};
 
 use crate::give::give;
+use crate::pending::Pending;
 use crate::slot::Slot;
 use ag_io::{Failed, Sink};
 use ag_texts::{LineBuf, changed_line, done_line};
@@ -26,16 +27,27 @@ pub fn tell_group<B: BlockBench, R: Sink>(
     ensures { MatchResult result (λ count. Wrote R.tells (record { given = R.given report.old; faults = R.faults report.old; sure = R.sure report.old }) (record { given = R.given report.new; faults = R.faults report.new; sure = R.sure report.new }) (lines_of (changes_from n group 0 (blocks_of slots.now) (words_of slots.now))) × (count ≡ length (changes_from n group 0 (blocks_of slots.now) (words_of slots.now)))) (λ _. WroteSome R.tells (record { given = R.given report.old; faults = R.faults report.old; sure = R.sure report.old }) (record { given = R.given report.new; faults = R.faults report.new; sure = R.sure report.new }) (lines_of (changes_from n group 0 (blocks_of slots.now) (words_of slots.now)))) }
 {
     let mut line = LineBuf::new();
+    let mut pending = Pending::new();
     let mut count: u64 = 0;
     for (c, slot) in slots.iter().enumerate() {
-        count += tell_block(&mut line, group, c as u32, slot.got(), slot.word(), report)?;
+        count += tell_block(
+            &mut line,
+            &mut pending,
+            group,
+            c as u32,
+            slot.got(),
+            slot.word(),
+            report,
+        )?;
     }
+    pending.write(report)?;
     Ok(count)
 }
 
-/// Tells the changes from a block to its codeword, and answers how many they are.
+/// Tells the changes from a block to its codeword, and answers how many they are. The last lines may be left to wait.
 fn tell_block<R: Sink>(
     line: &mut LineBuf,
+    pending: &mut Pending,
     group: u64,
     word: u32,
     got: &[u8],
@@ -44,13 +56,13 @@ fn tell_block<R: Sink>(
 ) -> Result<u64, Failed>
     requires few { length got.now ≤ 1024 }
     requires same { length codeword.now ≡ length got.now }
-    ensures { MatchResult result (λ count. Wrote R.tells (record { given = R.given report.old; faults = R.faults report.old; sure = R.sure report.old }) (record { given = R.given report.new; faults = R.faults report.new; sure = R.sure report.new }) (lines_of (place_changes (length got.now) group word got.now codeword.now)) × (count ≡ length (place_changes (length got.now) group word got.now codeword.now))) (λ _. WroteSome R.tells (record { given = R.given report.old; faults = R.faults report.old; sure = R.sure report.old }) (record { given = R.given report.new; faults = R.faults report.new; sure = R.sure report.new }) (lines_of (place_changes (length got.now) group word got.now codeword.now))) }
+    ensures { MatchResult result (λ count. WroteAllBut R.tells (record { given = R.given report.old; faults = R.faults report.old; sure = R.sure report.old }) (record { given = R.given report.new; faults = R.faults report.new; sure = R.sure report.new }) (pending.old ++ lines_of (place_changes (length got.now) group word got.now codeword.now)) pending.new × (count ≡ length (place_changes (length got.now) group word got.now codeword.now))) (λ _. WroteSome R.tells (record { given = R.given report.old; faults = R.faults report.old; sure = R.sure report.old }) (record { given = R.given report.new; faults = R.faults report.new; sure = R.sure report.new }) (pending.old ++ lines_of (place_changes (length got.now) group word got.now codeword.now))) }
 {
     let mut count: u64 = 0;
     for p in 0..got.len() {
         if got[p] != codeword[p] {
             changed_line(line, group, word, p as u32, got[p], codeword[p]);
-            give(report, line.bytes())?;
+            pending.add(line.bytes(), report)?;
             count += 1;
         }
     }

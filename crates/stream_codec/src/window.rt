@@ -142,19 +142,15 @@ impl<B: BlockBench> Window<B> {
     }
 }
 
-/// How many codewords a window has at the least. A worker takes some time to start, so where there are several, each gets
-/// a few codewords in turn; a single one decodes group by group.
+/// How many codewords a window has at the least. Workers are started for each window anew, which takes some time, so where
+/// there are several it has many; a single one decodes group by group.
 fn codewords_for(workers: u32) -> u32
     requires least { 1 ≤ workers }
     requires most { workers ≤ 64 }
     ensures enough { workers ≤ result }
     ensures few { result ≤ 64 }
 {
-    if workers == 1 {
-        1
-    } else {
-        (8 * workers).min(64)
-    }
+    if workers == 1 { 1 } else { 64 }
 }
 
 /// So many slots for blocks of a code.

@@ -1,12 +1,12 @@
--- The changes of the codewords so far were told.
+-- The changes of the codewords so far were told, or their lines wait.
 use Rattle.std.proofs.Common.{◌≡◌, length, take}
-use Rattle.stream_codec.specs.Giving.{Wrote}
+use Rattle.stream_codec.specs.Giving.{WroteAllBut}
 use Rattle.stream_codec.specs.Report.{changes_from, lines_of}
 use Rattle.stream_codec.specs.Slots.{blocks_of, words_of}
 use Rattle.stream_codec.proofs.report.tell_group.Given as goal
 
 abbrev pub invariant-loop-c : goal.invariant-loop-c
 invariant-loop-c g l = record {
-  wrote : Wrote g.R.Sink.tells (record { given = g.R.Sink.given l.initial.report; faults = g.R.Sink.faults l.initial.report; sure = g.R.Sink.sure l.initial.report }) (record { given = g.R.Sink.given l.report; faults = g.R.Sink.faults l.report; sure = g.R.Sink.sure l.report }) (lines_of (changes_from l.n l.group 0 (blocks_of (take l.c l.slots)) (words_of (take l.c l.slots))));
+  wrote : WroteAllBut g.R.Sink.tells (record { given = g.R.Sink.given l.initial.report; faults = g.R.Sink.faults l.initial.report; sure = g.R.Sink.sure l.initial.report }) (record { given = g.R.Sink.given l.report; faults = g.R.Sink.faults l.report; sure = g.R.Sink.sure l.report }) (lines_of (changes_from l.n l.group 0 (blocks_of (take l.c l.slots)) (words_of (take l.c l.slots)))) l.pending;
   count : l.count ≡ length (changes_from l.n l.group 0 (blocks_of (take l.c l.slots)) (words_of (take l.c l.slots)));
 }

@@ -1,0 +1,67 @@
+//! Lines that are written together.
+
+ghost use Rattle.std.specs.Prelude.{ℕ, ◌≡◌, ◌+◌, ◌≤◌, List, [], ◌++◌, length, take, MatchResult};
+ghost use Rattle.stream_codec.specs.Giving.{Wrote, WroteSome, WroteAllBut};
+
+use crate::give::give;
+use ag_io::{Failed, Sink};
+use std::marker::Model;
+
+/// Lines that wait to be written, at most 4,096 bytes, seen as the list of these. Its calls take no memory.
+#[derive(Drop)]
+pub struct Pending {
+    bytes: [u8; 4096],
+    used: usize,
+}
+
+impl Model for Pending {
+    ghost Value = { List ℕ };
+
+    ghost view = { λ s. take s.used s.bytes };
+
+    ghost invariant = { λ s. s.used ≤ 4096 };
+}
+
+impl Pending {
+    /// Nothing waits.
+    pub fn new() -> Pending
+        ensures { result ≡ [] }
+    {
+        Pending {
+            bytes: [0; 4096],
+            used: 0,
+        }
+    }
+
+    /// Adds a line. Where it does not fit behind what waits, that is written first.
+    pub fn add<R: Sink>(&mut self, line: &[u8], report: &mut R) -> Result<(), Failed>
+        requires { length line.now ≤ 4096 }
+        ensures { MatchResult result (λ _. WroteAllBut R.tells (record { given = R.given report.old; faults = R.faults report.old; sure = R.sure report.old }) (record { given = R.given report.new; faults = R.faults report.new; sure = R.sure report.new }) (self.old ++ line.now) self.new) (λ _. WroteSome R.tells (record { given = R.given report.old; faults = R.faults report.old; sure = R.sure report.old }) (record { given = R.given report.new; faults = R.faults report.new; sure = R.sure report.new }) (self.old ++ line.now)) }
+    {
+        if line.len() > self.bytes.len() - self.used {
+            self.write(report)?;
+        }
+        self.append(line);
+        Ok(())
+    }
+
+    /// Writes what waits. Where nothing does, no write is made.
+    pub fn write<R: Sink>(&mut self, report: &mut R) -> Result<(), Failed>
+        ensures written { MatchResult result (λ _. Wrote R.tells (record { given = R.given report.old; faults = R.faults report.old; sure = R.sure report.old }) (record { given = R.given report.new; faults = R.faults report.new; sure = R.sure report.new }) self.old) (λ _. WroteSome R.tells (record { given = R.given report.old; faults = R.faults report.old; sure = R.sure report.old }) (record { given = R.given report.new; faults = R.faults report.new; sure = R.sure report.new }) self.old) }
+        ensures none { self.new ≡ [] }
+    {
+        let used = self.used;
+        self.used = 0;
+        give(report, &self.bytes[..used])
+    }
+
+    /// Adds a line that fits.
+    fn append(&mut self, line: &[u8])
+        requires { length self.old + length line.now ≤ 4096 }
+        ensures { self.new ≡ self.old ++ line.now }
+    {
+        let end = self.used + line.len();
+        self.bytes[self.used..end].copy_from_slice(line);
+        self.used = end;
+    }
+}
