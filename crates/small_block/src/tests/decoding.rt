@@ -222,3 +222,33 @@ fn any_number_of_workers_decodes_groups_of_two_alike(rt: HostRuntime) -> Result<
     }
     Ok(())
 }
+
+#[test]
+fn texts_of_more_than_one_window_are_decoded_in_order(rt: HostRuntime) -> Result<(), Fail> {
+    let mut whole = [0; 808];
+    whole[800..].copy_from_slice(&EMPTY);
+    whole[43] = 1;
+    whole[563] = 3;
+    let mut far = whole;
+    far[640..648].copy_from_slice(&[1, 1, 1, 0, 0, 0, 0, 0]);
+    far[720..728].copy_from_slice(&[1, 1, 1, 0, 0, 0, 0, 0]);
+    let cases = [
+        answered(
+            &whole,
+            counts(101, 75, 2),
+            &[0; 75],
+            "changed 5 0 3 01 00\nchanged 70 0 3 03 00\ndone bytes 75 groups 101 changed 2\n",
+        ),
+        answered(
+            &far,
+            Err(DecodeFault::Beyond { group: 80, word: 0 }),
+            &[0; 60],
+            "changed 5 0 3 01 00\nchanged 70 0 3 03 00\n",
+        ),
+    ];
+    for workers in [1, 3] {
+        let missed = missed(&rt, rt.alloc(), &SmallCode, 1, workers, &cases)?;
+        assert!(rt; missed.is_empty(), "{missed:?} with {workers} workers");
+    }
+    Ok(())
+}
