@@ -7,6 +7,8 @@ mod points;
 pub use points::are_points;
 
 #[cfg(test)]
+mod rig;
+#[cfg(test)]
 mod searched;
 #[cfg(test)]
 mod tests;

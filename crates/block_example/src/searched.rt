@@ -1,72 +1,88 @@
 //! The decoder compared with a search through all words, at every error of a weight up to one more than the radius.
 
-ghost use Rattle.std.specs.Prelude.{◌≤◌};
+ghost use Rattle.std.specs.Prelude.{◌≡◌, ◌≤◌, length};
+ghost use Rattle.block_code.specs.Compiled.{numbers_of};
 
-use crate::tests::{compiled_at, points};
+use crate::rig::{decode, made, points};
 use block_code::{Bench, Code, Verdict};
 use cab_curve::Point;
 use error_locator::Locator;
-use gf_field::PolyField;
+use gf_field::Field;
 use search_decoder::near_by_search;
-use std::alloc::{AllocError, Global};
-use std::test::Fail;
+use std::alloc::Global;
+use std::thread::Threads;
 
-// What is said of a block, and the codeword near it, or the block itself where there is none.
-type Answer = (Verdict, Vec<u8>);
-
-fn decoded(alloc: Global, code: &Code<PolyField>, got: &[u8]) -> Option<Answer> {
-    if code.n() as usize != got.len() {
-        return None;
+// How many bytes differ.
+fn distance(xs: &[u8], ys: &[u8]) -> u32
+    requires { length xs.now ≡ length ys.now }
+{
+    let mut count: u32 = 0;
+    for p in 0..xs.len() {
+        count = count.wrapping_add(u32::from(xs[p] != ys[p]));
     }
-    let mut bench = Bench::new(alloc, code).ok()?;
-    let mut word = got.to_vec(alloc).ok()?;
-    let verdict = code.decode_block(&mut bench, got, &mut word);
-    Some((verdict, word))
+    count
 }
 
-fn repaired(alloc: Global, code: &Code<PolyField>, got: &[u8]) -> Option<Answer> {
-    if code.n() as usize != got.len() {
-        return None;
-    }
-    let mut bench = Bench::new(alloc, code).ok()?;
-    let mut word = got.to_vec(alloc).ok()?;
-    let verdict = code.repair_block(&mut bench, got, &mut word);
-    bench.ledger().is_empty().then_some((verdict, word))
-}
-
-// Whether the locator finds the error of a block.
-fn is_located(alloc: Global, code: &Code<PolyField>, got: &[u8]) -> Option<bool> {
-    if code.n() as usize != got.len() {
-        return None;
-    }
-    let mut locator = Locator::new(alloc, code.basis(), code.radius()).ok()?;
-    let mut err = got.to_vec(alloc).ok()?;
+// Whether the search finds a codeword near a block.
+fn is_near<F: Field>(code: &Code<F>, got: &[u8], word: &mut [u8]) -> bool
+    requires received { length got.now ≡ code.now.basis.n }
+    requires positions { length word.old ≡ code.now.basis.n }
+{
     let t = code.radius();
-    Some(locator.locate(code.field(), code.basis(), code.checked(), t, got, &mut err))
+    near_by_search(code.field(), code.basis(), code.checked(), t, got, word)
 }
 
-fn searched(alloc: Global, code: &Code<PolyField>, got: &[u8]) -> Option<Answer> {
-    if code.n() as usize != got.len() {
-        return None;
+// What the search says of a block, and the codeword near it, or the block itself where there is none.
+fn search<F: Field>(code: &Code<F>, got: &[u8], word: &mut [u8]) -> Verdict
+    requires received { length got.now ≡ code.now.basis.n }
+    requires positions { length word.old ≡ code.now.basis.n }
+{
+    if !is_near(code, got, word) {
+        word.copy_from_slice(got);
+        return Verdict::Beyond;
     }
-    let mut word = got.to_vec(alloc).ok()?;
-    let t = code.radius();
-    if !near_by_search(
-        code.field(),
-        code.basis(),
-        code.checked(),
-        t,
-        got,
-        &mut word,
-    ) {
-        return Some((Verdict::Beyond, got.to_vec(alloc).ok()?));
+    Verdict::Near {
+        changes: distance(got, word),
     }
-    let changes = u32::try_from(distance(got, &word)).ok()?;
-    Some((Verdict::Near { changes }, word))
 }
 
-fn distance(xs: &[u8], ys: &[u8]) -> usize {
-    xs.iter().zip(ys).filter(|(x, y)| x != y).count()
+// Repairs a block, and tells no more of it than the verdict.
+fn repair<F: Field>(code: &Code<F>, bench: &mut Bench, got: &[u8], word: &mut [u8]) -> Verdict
+    requires fits { bench.old.numbers ≡ numbers_of code.now }
+    requires received { length got.now ≡ code.now.basis.n }
+    requires positions { length word.old ≡ code.now.basis.n }
+    ensures { bench.new.numbers ≡ numbers_of code.now }
+{
+    code.repair_block(bench, got, word)
+}
+
+// Whether both ways to decode a block say what the search says, and repairing leaves no ledger.
+fn agree<F: Field>(
+    code: &Code<F>,
+    bench: &mut Bench,
+    got: &[u8],
+    expected: &mut [u8],
+    word: &mut [u8],
+) -> bool
+    requires fits { bench.old.numbers ≡ numbers_of code.now }
+    requires received { length got.now ≡ code.now.basis.n }
+    requires expected { length expected.old ≡ code.now.basis.n }
+    requires word { length word.old ≡ code.now.basis.n }
+    ensures { bench.new.numbers ≡ numbers_of code.now }
+{
+    let verdict = search(code, got, expected);
+    word.copy_from_slice(got);
+    if decode(code, bench, got, word) != verdict {
+        return false;
+    }
+    if *word != *expected {
+        return false;
+    }
+    word.copy_from_slice(got);
+    if repair(code, bench, got, word) != verdict {
+        return false;
+    }
+    *word == *expected && bench.ledger().is_empty()
 }
 
 // How many digits of a number in base 4 are not 0.
@@ -74,52 +90,85 @@ fn weight_of(error: u32) -> u32 {
     ((error | error >> 1) & 0x5555_5555).count_ones()
 }
 
-// The errors of at most this weight on n symbols: the digits of a number in base 4.
-fn errors(alloc: Global, n: u32, weight: u32) -> Result<Vec<u32>, AllocError>
-    requires { n ≤ 8 }
+// Writes what comes of a word by an error, whose symbols are the digits of a number in base 4.
+fn damage(sent: &[u8], error: u32, got: &mut [u8])
+    requires { length got.old ≡ length sent.now }
 {
-    (0..1u32 << (2 * n))
-        .filter(|error| weight_of(*error) <= weight)
-        .collect(alloc)
-}
-
-fn damaged(alloc: Global, sent: &[u8], error: u32) -> Result<Vec<u8>, AllocError> {
-    let mut got = Vec::new(alloc);
     let mut rest = error;
-    for symbol in sent {
-        got.push(*symbol ^ (rest % 4) as u8)?;
+    for p in 0..sent.len() {
+        got[p] = sent[p] ^ (rest % 4) as u8;
         rest /= 4;
     }
-    Ok(got)
 }
 
-// Whether both ways to decode a block say what the search says.
-fn agree(alloc: Global, code: &Code<PolyField>, got: &[u8]) -> Option<bool> {
-    let answer = searched(alloc, code, got)?;
-    Some(decoded(alloc, code, got)? == answer && repaired(alloc, code, got)? == answer)
-}
-
-// How many errors were tried on a codeword, where decoder and search say the same after each.
-fn agreed(alloc: Global, code: &Code<PolyField>, sent: &[u8]) -> Option<usize> {
-    if code.n() as usize != sent.len() || sent.len() > 8 {
-        return None;
-    }
-    let tried = errors(alloc, sent.len() as u32, code.radius().saturating_add(1)).ok()?;
-    for error in tried.as_slice() {
-        let got = damaged(alloc, sent, *error).ok()?;
-        if !agree(alloc, code, &got)? {
-            return None;
+// How many errors up to a weight were tried on a codeword, where decoder and search say the same after each.
+fn agreed_up_to<F: Field>(
+    code: &Code<F>,
+    bench: &mut Bench,
+    sent: &[u8],
+    weight: u32,
+) -> Option<u32>
+    requires fits { bench.old.numbers ≡ numbers_of code.now }
+    requires long { length sent.now ≡ code.now.basis.n }
+    requires short { length sent.now ≤ 8 }
+{
+    let n = sent.len();
+    let mut got = [0; 8];
+    let mut expected = [0; 8];
+    let mut word = [0; 8];
+    let mut count: u32 = 0;
+    for error in 0..1u32 << (2 * n) {
+        if weight_of(error) <= weight {
+            damage(sent, error, &mut got[..n]);
+            if !agree(code, bench, &got[..n], &mut expected[..n], &mut word[..n]) {
+                return None;
+            }
+            count = count.wrapping_add(1);
         }
     }
-    Some(tried.len())
+    Some(count)
+}
+
+// The same on a bench, for a code of this radius.
+fn agreed_on<F: Field>(code: &Code<F>, bench: &mut Bench, sent: &[u8], radius: u32) -> Option<u32>
+    requires { bench.old.numbers ≡ numbers_of code.now }
+{
+    if code.n() as usize != sent.len() {
+        return None;
+    }
+    if sent.len() > 8 {
+        return None;
+    }
+    if code.radius() != radius {
+        return None;
+    }
+    agreed_up_to(code, bench, sent, radius.saturating_add(1))
+}
+
+fn agreed_by<F: Field>(alloc: Global, code: &Code<F>, sent: &[u8], radius: u32) -> Option<u32> {
+    let mut bench = Bench::new(alloc, code).ok()?;
+    agreed_on(code, &mut bench, sent, radius)
+}
+
+// How many errors were tried on a codeword of the code at these points, where decoder and search say the same after each.
+fn agreed<X: Threads + Sync>(
+    rt: &X,
+    alloc: Global,
+    points: &[Point],
+    weight: u32,
+    sent: &[u8],
+    radius: u32,
+) -> Option<u32> {
+    let code = made(rt, alloc, points, weight)?;
+    agreed_by(alloc, &code, sent, radius)
 }
 
 #[test]
-fn decodes_as_the_search_does(rt: HostRuntime) -> Result<(), Fail> {
+fn decodes_as_the_search_does(rt: HostRuntime) {
     let alloc = rt.alloc();
     let points = points();
     // the points, the greatest checked label, a codeword, the radius, and how many errors there are
-    let rows: [(&[Point], u32, &[u8], u32, usize); 3] = [
+    let rows: [(&[Point], u32, &[u8], u32, u32); 3] = [
         (
             &points,
             5,
@@ -131,42 +180,55 @@ fn decodes_as_the_search_does(rt: HostRuntime) -> Result<(), Fail> {
         (&points[..5], 3, &[2, 1, 2, 0, 1], 1, 1 + 15 + 90),
     ];
     for (points, weight, sent, radius, count) in rows {
-        let code = compiled_at(&rt, alloc, points, weight)
-            .ok_or("no domain")?
-            .ok()
-            .ok_or("no code")?;
-        assert_eq!(rt; code.radius(), radius);
-        assert_eq!(rt; agreed(alloc, &code, sent), Some(count));
+        assert!(rt; agreed(&rt, alloc, points, weight, sent, radius) == Some(count));
     }
-    Ok(())
+}
+
+// Whether the locator finds the error of a block.
+fn is_located<F: Field>(code: &Code<F>, locator: &mut Locator, got: &[u8], err: &mut [u8]) -> bool
+    requires fits { locator.old ≡ record { bits = code.now.basis.bits; n = code.now.basis.n } }
+    requires received { length got.now ≡ code.now.basis.n }
+    requires room { length err.old ≡ code.now.basis.n }
+    ensures { locator.new ≡ record { bits = code.now.basis.bits; n = code.now.basis.n } }
+{
+    let t = code.radius();
+    locator.locate(code.field(), code.basis(), code.checked(), t, got, err)
 }
 
 // How many errors of at most one symbol on a codeword are located.
-fn located(alloc: Global, code: &Code<PolyField>, sent: &[u8]) -> Option<u32> {
-    if code.n() as usize != sent.len() || sent.len() > 8 {
+fn located_with<F: Field>(code: &Code<F>, locator: &mut Locator, sent: [u8; 8]) -> u32
+    requires fits { locator.old ≡ record { bits = code.now.basis.bits; n = code.now.basis.n } }
+    requires long { code.now.basis.n ≡ 8 }
+{
+    let mut got = [0; 8];
+    let mut err = [0; 8];
+    let mut count: u32 = 0;
+    for error in 0..1u32 << 16 {
+        if weight_of(error) <= 1 {
+            damage(&sent, error, &mut got);
+            count = count.wrapping_add(u32::from(is_located(code, locator, &got, &mut err)));
+        }
+    }
+    count
+}
+
+fn located_by<F: Field>(alloc: Global, code: &Code<F>, sent: [u8; 8]) -> Option<u32> {
+    if code.n() != 8 {
         return None;
     }
-    let tried = errors(alloc, sent.len() as u32, 1).ok()?;
-    let mut count: u32 = 0;
-    for error in tried.as_slice() {
-        let got = damaged(alloc, sent, *error).ok()?;
-        count = count.wrapping_add(u32::from(is_located(alloc, code, &got)?));
-    }
-    Some(count)
+    let mut locator = Locator::new(alloc, code.basis(), code.radius()).ok()?;
+    Some(located_with(code, &mut locator, sent))
+}
+
+// The same by the code at all points where labels up to 5 are checked.
+fn located<X: Threads + Sync>(rt: &X, alloc: Global, sent: [u8; 8]) -> Option<u32> {
+    let code = made(rt, alloc, &points(), 5)?;
+    located_by(alloc, &code, sent)
 }
 
 // One wrong symbol is at a zero of the function x - a, where a is its first coordinate, and one point more has that
 // coordinate; at two points with different second coordinates the checked functions 1 and y tell both symbols.
 #[test]
-fn locates_each_error_of_one_symbol(rt: HostRuntime) -> Result<(), Fail> {
-    let alloc = rt.alloc();
-    let code = compiled_at(&rt, alloc, &points(), 5)
-        .ok_or("no domain")?
-        .ok()
-        .ok_or("no code")?;
-    assert_eq!(rt;
-        located(alloc, &code, &[2, 0, 0, 2, 3, 1, 2, 0]),
-        Some(1 + 24)
-    );
-    Ok(())
+fn locates_each_error_of_one_symbol(rt: HostRuntime) {
+    assert!(rt; located(&rt, rt.alloc(), [2, 0, 0, 2, 3, 1, 2, 0]) == Some(1 + 24));
 }

@@ -1,4 +1,4 @@
-use Rattle.std.proofs.Common.{ℕ, ◌≡◌, ◌≢◌, ◌<◌, IsTrue}
+use Rattle.std.proofs.Common.{ℕ, ◌≢◌, ◌<◌, IsTrue}
 use Rattle.order_domain.specs.Points.{point_at}
 use Rattle.block_example.proofs.points.are_points.Given as goal
 
