@@ -6,7 +6,6 @@ ghost use Rattle.gf_linear.specs.Matrix.{IsOver};
 use gf_field::PolyField;
 use gf_linear::{Matrix, part_rank, part_residue};
 use std::alloc::{AllocError, Global};
-use std::test::Fail;
 use vote_matrix::Growing;
 
 fn are_symbols(list: &[u8]) -> bool
@@ -119,25 +118,33 @@ fn grows_alike(f: &PolyField, m: &Matrix, room: &mut Matrix, growing: &mut Growi
     true
 }
 
+// The same with room of its own.
+fn grows(alloc: Global, f: &PolyField, m: &Matrix) -> Result<bool, AllocError>
+    requires bits { f.now.bits ≡ 2 }
+    requires modulus { f.now.modulus ≡ 7 }
+    requires symbols { IsOver 2 m.now }
+    requires rows { length m.now.rows ≡ 3 }
+    requires cols { m.now.cols ≡ 3 }
+{
+    let mut room = Matrix::new(alloc, 3, 3)?;
+    let mut growing = Growing::new(alloc, 2, 7, 3)?;
+    Ok(grows_alike(f, m, &mut room, &mut growing))
+}
+
 // The same of one matrix over the field of four elements.
-fn one_grows_alike(alloc: Global) -> Result<Option<bool>, AllocError> {
-    let Some(f) = PolyField::new(2, 7) else {
-        return Ok(None);
-    };
-    let mut m = Matrix::new(alloc, 3, 3)?;
+fn one_grows_alike(alloc: Global) -> Option<bool> {
+    let f = PolyField::new(2, 7)?;
+    let mut m = Matrix::new(alloc, 3, 3).ok()?;
     m.set_row(0, &[3, 3, 3]);
     m.set_row(1, &[3, 3, 3]);
     m.set_row(2, &[3, 3, 0]);
     if !holds_symbols(&m) {
-        return Ok(None);
+        return None;
     }
-    let mut room = Matrix::new(alloc, 3, 3)?;
-    let mut growing = Growing::new(alloc, 2, 7, 3)?;
-    Ok(Some(grows_alike(&f, &m, &mut room, &mut growing)))
+    grows(alloc, &f, &m).ok()
 }
 
 #[test]
-fn grows_as_the_ranks_of_parts_tell(rt: HostRuntime) -> Result<(), Fail> {
-    assert_eq!(rt; one_grows_alike(rt.alloc())?, Some(true));
-    Ok(())
+fn grows_as_the_ranks_of_parts_tell(rt: HostRuntime) {
+    assert!(rt; one_grows_alike(rt.alloc()) == Some(true));
 }

@@ -24,6 +24,8 @@ pub fn small_errors_vote()
 #[cfg(test)]
 mod grown;
 #[cfg(test)]
+mod rig;
+#[cfg(test)]
 mod tests;
 #[cfg(test)]
 mod voters;

@@ -2,16 +2,15 @@
 
 ghost use Rattle.std.specs.Prelude.{◌≡◌, ◌+◌, ◌*◌, ◌<◌, length, IsTrue, IfOk, IfSome, false};
 ghost use Rattle.order_theory.specs.Codes.{marked, IsBound};
+ghost use Rattle.vote_core.specs.Voters.{Fits};
 
-use super::tests::{on_curve, small_points, small_terms};
-use cab_curve::Point;
+use crate::rig::{on_curve, small_points, small_terms};
 use eval_basis::{CheckRule, Checked, EvalBasis};
 use gf_field::{Field, PolyField};
-use plain_voter::find_plainly;
+use plain_voter::{PlainFind, PlainLine, find_plainly};
 use std::alloc::{AllocError, Global};
-use std::test::Fail;
 use std::thread::Threads;
-use vote_core::{Found, Voter};
+use vote_core::{Found, VoteLine, Voter};
 
 // A code, and a number of changes that it corrects.
 #[derive(Drop)]
@@ -60,35 +59,80 @@ fn corrects(basis: &EvalBasis, checked: &Checked, t: u32) -> bool
     true
 }
 
-// The code of the small curve at these points, where labels up to a weight are checked.
-fn small_code<X: Threads + Sync>(
-    rt: &X,
-    alloc: Global,
-    points: &[Point],
-    weight: u32,
-    t: u32,
-) -> Option<SmallCode>
-    requires { t < 1000 }
+// A member that is not checked, where these are the parts of a code that corrects t changes.
+fn free_in_code(f: &PolyField, basis: &EvalBasis, checked: &Checked, t: u32) -> Option<u32>
+    requires { length checked.now ≡ basis.now.n }
+    ensures bits { IfSome result (λ free. f.now.bits ≡ basis.now.bits) }
+    ensures modulus { IfSome result (λ free. f.now.modulus ≡ basis.now.modulus) }
+    ensures inside { IfSome result (λ free. free < basis.now.n) }
+    ensures is_free { IfSome result (λ free. marked checked.now free ≡ false) }
+    ensures radius { IfSome result (λ free. IsBound basis.now checked.now (2 * t + 1)) }
 {
-    let f = PolyField::new(2, 7)?;
-    let basis = on_curve(rt, alloc, small_terms(), points)?;
-    let checked = Checked::new(alloc, &basis, CheckRule::AtMost { weight }).ok()?;
     if basis.bits() != f.bits() {
         return None;
     }
     if basis.modulus() != f.modulus() {
         return None;
     }
-    let free = free_member(&basis, &checked)?;
-    if !corrects(&basis, &checked, t) {
+    if t >= 1000 {
         return None;
     }
+    if !corrects(basis, checked, t) {
+        return None;
+    }
+    free_member(basis, checked)
+}
+
+// Some of the points of the small curve, the greatest label that is checked, and the radius.
+#[derive(Clone, Copy)]
+struct Kind {
+    points: u32,
+    weight: u32,
+    t: u32,
+}
+
+// The code of eight points that corrects two changes.
+const STRONG: Kind = Kind {
+    points: 8,
+    weight: 5,
+    t: 2,
+};
+
+// The code at the first five points, which corrects one change.
+const SHORT: Kind = Kind {
+    points: 5,
+    weight: 3,
+    t: 1,
+};
+
+// The code that is checked by one sum alone, and corrects nothing.
+const WEAK: Kind = Kind {
+    points: 8,
+    weight: 0,
+    t: 0,
+};
+
+// The basis of the small curve at the first of its points.
+fn small_basis<X: Threads + Sync>(rt: &X, alloc: Global, count: u32) -> Option<EvalBasis> {
+    let points = small_points();
+    on_curve(rt, alloc, small_terms(), points.get(..count as usize)?)
+}
+
+// The code of a kind.
+fn small_code<X: Threads + Sync>(rt: &X, alloc: Global, kind: Kind) -> Option<SmallCode> {
+    let f = PolyField::new(2, 7)?;
+    let basis = small_basis(rt, alloc, kind.points)?;
+    let rule = CheckRule::AtMost {
+        weight: kind.weight,
+    };
+    let checked = Checked::new(alloc, &basis, rule).ok()?;
+    let free = free_in_code(&f, &basis, &checked, kind.t)?;
     Some(SmallCode {
         f,
         basis,
         checked,
         free,
-        t,
+        t: kind.t,
     })
 }
 
@@ -101,43 +145,83 @@ struct Says {
     lines: Vec<[u32; 4]>,
 }
 
+// Whether the voter finds an error, which it writes.
+fn finds(code: &SmallCode, voter: &mut Voter, got: &[u8], err: &mut [u8]) -> bool
+    requires fits { Fits voter.old code.now.basis }
+    requires got { length got.now ≡ code.now.basis.n }
+    requires err { length err.old ≡ code.now.basis.n }
+{
+    voter.find(&code.f, &code.basis, got, err) == Found::Error
+}
+
+// The votes as plain numbers.
+fn lines_of(alloc: Global, ledger: &[VoteLine]) -> Result<Vec<[u32; 4]>, AllocError> {
+    let mut lines = Vec::new(alloc);
+    for line in ledger {
+        lines.push([line.label, line.pairs, line.right, line.wrong])?;
+    }
+    Ok(lines)
+}
+
+fn plain_lines_of(alloc: Global, ledger: &[PlainLine]) -> Result<Vec<[u32; 4]>, AllocError> {
+    let mut lines = Vec::new(alloc);
+    for line in ledger {
+        lines.push([line.label, line.pairs, line.right, line.wrong])?;
+    }
+    Ok(lines)
+}
+
+fn told_by(
+    alloc: Global,
+    code: &SmallCode,
+    voter: &mut Voter,
+    got: &[u8],
+    mut err: Vec<u8>,
+) -> Result<Says, AllocError>
+    requires fits { Fits voter.old code.now.basis }
+    requires got { length got.now ≡ code.now.basis.n }
+    requires err { length err.items ≡ code.now.basis.n }
+{
+    let is_found = finds(code, voter, got, &mut err);
+    Ok(Says {
+        is_found,
+        err,
+        lines: lines_of(alloc, voter.ledger())?,
+    })
+}
+
 fn voter_says(alloc: Global, code: &SmallCode, got: &[u8]) -> Result<Says, AllocError>
     requires { length got.now ≡ code.now.basis.n }
 {
-    let mut err = vec![in alloc; 0; got.len()]?;
+    let err = vec![in alloc; 0; got.len()]?;
     let mut voter = Voter::new(alloc, &code.basis, &code.checked, code.t)?;
-    let found = voter.find(&code.f, &code.basis, got, &mut err);
-    let mut lines = Vec::new(alloc);
-    for line in voter.ledger() {
-        lines.push([line.label, line.pairs, line.right, line.wrong])?;
-    }
-    Ok(Says {
-        is_found: found == Found::Error,
-        err,
-        lines,
-    })
+    told_by(alloc, code, &mut voter, got, err)
+}
+
+// Seeks an error plainly, and tells no more of it than what was found.
+fn found_plainly(
+    alloc: Global,
+    code: &SmallCode,
+    got: &[u8],
+) -> Result<Option<PlainFind>, AllocError>
+    requires { length got.now ≡ code.now.basis.n }
+{
+    find_plainly(alloc, &code.f, &code.basis, &code.checked, code.t, got)
 }
 
 fn plain_voter_says(alloc: Global, code: &SmallCode, got: &[u8]) -> Result<Says, AllocError>
     requires { length got.now ≡ code.now.basis.n }
 {
-    let answer = find_plainly(alloc, &code.f, &code.basis, &code.checked, code.t, got)?;
-    let mut lines = Vec::new(alloc);
-    match answer {
-        Some(find) => {
-            for line in find.lines.iter() {
-                lines.push([line.label, line.pairs, line.right, line.wrong])?;
-            }
-            Ok(Says {
-                is_found: true,
-                err: find.err,
-                lines,
-            })
-        }
+    match found_plainly(alloc, code, got)? {
+        Some(find) => Ok(Says {
+            is_found: true,
+            lines: plain_lines_of(alloc, &find.lines)?,
+            err: find.err,
+        }),
         None => Ok(Says {
             is_found: false,
             err: vec![in alloc; 0; got.len()]?,
-            lines,
+            lines: Vec::new(alloc),
         }),
     }
 }
@@ -189,98 +273,92 @@ fn agree_around(alloc: Global, code: &SmallCode, word: &[u8]) -> Result<bool, Al
     Ok(true)
 }
 
-// The code of eight points that corrects two changes.
-fn strong_code<X: Threads + Sync>(rt: &X, alloc: Global) -> Option<SmallCode> {
-    small_code(rt, alloc, &small_points(), 5, 2)
-}
-
-// The code at the first five points, which corrects one change.
-fn short_code<X: Threads + Sync>(rt: &X, alloc: Global) -> Option<SmallCode> {
-    small_code(rt, alloc, &small_points()[..5], 3, 1)
-}
-
-// The code that is checked by one sum alone, and corrects nothing.
-fn weak_code<X: Threads + Sync>(rt: &X, alloc: Global) -> Option<SmallCode> {
-    small_code(rt, alloc, &small_points(), 0, 0)
-}
-
 // Whether both voters agree around a word, where it is as long as those of the code.
-fn agree_at(alloc: Global, code: &SmallCode, word: &[u8]) -> Result<Option<bool>, AllocError> {
+fn agree_at(alloc: Global, code: &SmallCode, word: &[u8]) -> Option<bool> {
     if word.len() != code.basis.n() as usize {
-        return Ok(None);
+        return None;
     }
-    Ok(Some(agree_around(alloc, code, word)?))
+    agree_around(alloc, code, word).ok()
+}
+
+// The same of a word of a kind of code.
+fn agree<X: Threads + Sync>(rt: &X, alloc: Global, kind: Kind, word: &[u8]) -> Option<bool> {
+    let code = small_code(rt, alloc, kind)?;
+    agree_at(alloc, &code, word)
 }
 
 #[test]
-fn agrees_with_the_plain_voter(rt: HostRuntime) -> Result<(), Fail> {
-    let alloc = rt.alloc();
-    let strong = strong_code(&rt, alloc).ok_or("no code")?;
-    let codeword = [2, 0, 0, 2, 3, 1, 2, 0];
-    assert_eq!(rt; agree_at(alloc, &strong, &codeword)?, Some(true));
-    let short = short_code(&rt, alloc).ok_or("no code")?;
-    assert_eq!(rt; agree_at(alloc, &short, &[0, 1, 0, 3, 2])?, Some(true));
-    let weak = weak_code(&rt, alloc).ok_or("no code")?;
-    let sum_of_none = [1, 2, 3, 0, 0, 0, 0, 0];
-    assert_eq!(rt; agree_at(alloc, &weak, &sum_of_none)?, Some(true));
-    Ok(())
+fn agrees_with_the_plain_voter(rt: HostRuntime) {
+    // a codeword of each kind
+    let rows: [(Kind, &[u8]); 3] = [
+        (STRONG, &[2, 0, 0, 2, 3, 1, 2, 0]),
+        (SHORT, &[0, 1, 0, 3, 2]),
+        (WEAK, &[1, 2, 3, 0, 0, 0, 0, 0]),
+    ];
+    for (kind, word) in rows {
+        assert!(rt; agree(&rt, rt.alloc(), kind, word) == Some(true));
+    }
 }
 
-// Whether both voters find this error in a word, with these lines.
+// An error, and the lines of the votes.
+type Find<'a> = (&'a [u8], &'a [[u32; 4]]);
+
+fn is_told(says: &Says, find: Option<Find>) -> bool {
+    match find {
+        Some((err, lines)) => {
+            says.is_found && says.err.as_slice() == err && says.lines.as_slice() == lines
+        }
+        None => !says.is_found,
+    }
+}
+
+// Whether both voters find this in a word, where it is as long as those of the code.
 fn both_find(
     alloc: Global,
     code: &SmallCode,
     got: &[u8],
-    err: &[u8],
-    lines: &[[u32; 4]],
+    find: Option<Find>,
 ) -> Result<bool, AllocError> {
     if got.len() != code.basis.n() as usize {
         return Ok(false);
     }
     match both_say(alloc, code, got)? {
-        Some(says) => {
-            Ok(says.is_found && says.err.as_slice() == err && says.lines.as_slice() == lines)
-        }
+        Some(says) => Ok(is_told(&says, find)),
         None => Ok(false),
     }
 }
 
-// Whether both voters find no error in a word.
-fn both_give_up(alloc: Global, code: &SmallCode, got: &[u8]) -> Result<bool, AllocError> {
-    if got.len() != code.basis.n() as usize {
-        return Ok(false);
-    }
-    match both_say(alloc, code, got)? {
-        Some(says) => Ok(!says.is_found),
-        None => Ok(false),
-    }
+// The same of a word of a kind of code.
+fn find<X: Threads + Sync>(
+    rt: &X,
+    alloc: Global,
+    kind: Kind,
+    got: &[u8],
+    find: Option<Find>,
+) -> Option<bool> {
+    let code = small_code(rt, alloc, kind)?;
+    both_find(alloc, &code, got, find).ok()
 }
 
 #[test]
-fn finds_two_changes_in_spite_of_a_wrong_vote(rt: HostRuntime) -> Result<(), Fail> {
-    let alloc = rt.alloc();
-    let code = strong_code(&rt, alloc).ok_or("no code")?;
+fn finds_two_changes_in_spite_of_a_wrong_vote(rt: HostRuntime) {
     let got = [2, 0, 1, 0, 3, 1, 2, 0];
     let err = [0, 0, 1, 2, 0, 0, 0, 0];
     let lines = [[6, 5, 2, 1], [7, 6, 2, 0], [9, 8, 4, 0]];
-    assert!(rt; both_find(alloc, &code, &got, &err, &lines)?);
-    Ok(())
+    assert!(rt; find(&rt, rt.alloc(), STRONG, &got, Some((&err, &lines))) == Some(true));
 }
 
 #[test]
-fn finds_one_change_at_five_points(rt: HostRuntime) -> Result<(), Fail> {
-    let alloc = rt.alloc();
-    let code = short_code(&rt, alloc).ok_or("no code")?;
+fn finds_one_change_at_five_points(rt: HostRuntime) {
     let got = [0, 1, 2, 3, 2];
     let err = [0, 0, 2, 0, 0];
-    assert!(rt; both_find(alloc, &code, &got, &err, &[[4, 3, 1, 0], [5, 4, 2, 0]])?);
-    Ok(())
+    let lines = [[4, 3, 1, 0], [5, 4, 2, 0]];
+    assert!(rt; find(&rt, rt.alloc(), SHORT, &got, Some((&err, &lines))) == Some(true));
 }
 
 #[test]
-fn finds_no_error_where_nothing_is_corrected(rt: HostRuntime) -> Result<(), Fail> {
+fn finds_no_error_where_nothing_is_corrected(rt: HostRuntime) {
     let alloc = rt.alloc();
-    let code = weak_code(&rt, alloc).ok_or("no code")?;
     let lines = [
         [2, 2, 2, 0],
         [3, 2, 2, 0],
@@ -290,15 +368,17 @@ fn finds_no_error_where_nothing_is_corrected(rt: HostRuntime) -> Result<(), Fail
         [7, 6, 6, 0],
         [9, 8, 8, 0],
     ];
-    assert!(rt; both_find(alloc, &code, &[1, 2, 3, 0, 0, 0, 0, 0], &[0; 8], &lines)?);
-    assert!(rt; both_give_up(alloc, &code, &[1, 2, 2, 0, 0, 0, 0, 0])?);
-    Ok(())
+    let rows: [([u8; 8], Option<Find>); 2] = [
+        ([1, 2, 3, 0, 0, 0, 0, 0], Some((&[0; 8], &lines))),
+        ([1, 2, 2, 0, 0, 0, 0, 0], None),
+    ];
+    for (got, told) in rows {
+        assert!(rt; find(&rt, alloc, WEAK, &got, told) == Some(true));
+    }
 }
 
 #[test]
-fn gives_up_on_words_that_are_far(rt: HostRuntime) -> Result<(), Fail> {
-    let alloc = rt.alloc();
-    let code = strong_code(&rt, alloc).ok_or("no code")?;
+fn gives_up_on_words_that_are_far(rt: HostRuntime) {
     let words = [
         [1, 1, 1, 0, 0, 0, 0, 0],
         [1, 2, 3, 0, 0, 0, 0, 0],
@@ -306,7 +386,6 @@ fn gives_up_on_words_that_are_far(rt: HostRuntime) -> Result<(), Fail> {
         [3, 0, 0, 2, 3, 1, 1, 1],
     ];
     for got in words {
-        assert!(rt; both_give_up(alloc, &code, &got)?);
+        assert!(rt; find(&rt, rt.alloc(), STRONG, &got, None) == Some(true));
     }
-    Ok(())
 }
