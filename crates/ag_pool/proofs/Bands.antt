@@ -1,5 +1,5 @@
 -- The rows of a table that is cut into bands of whole rows
-use Rattle.std.proofs.Common.{◌≡◌, ◌≢◌, ℕ, suc, ◌+◌, ◌-◌, ◌*◌, ◌/◌, ◌%◌, ◌<◌, ◌≤◌, ◌^◌, List, [], length, min, take, drop, get_or, sym, ◌∙◌, ap, subst, arith, All}
+use Rattle.std.proofs.Common.{◌≡◌, ℕ, suc, ◌+◌, ◌-◌, ◌*◌, ◌/◌, ◌%◌, ◌<◌, ◌≤◌, ◌^◌, List, [], length, min, take, drop, sym, ◌∙◌, ap, subst, arith, All}
 use Rattle.std.proofs.Math.Nat.{mul-div_left, mul-le-mul_right, le_of_mul-le-mul_right, div-mul-le_self, suc-mul, mul_assoc}
 use Rattle.std.proofs.lemmas.Nat.{div-add-mod', div_below, mod_below, mul-lt}
 use Rattle.std.proofs.lemmas.List.{drop-drop, drop-take, take-take, length-take, length-drop}

@@ -5,7 +5,7 @@ use Rattle.std.proofs.lemmas.Bool.{cases_eq, cond-true, cond-false, eq-eqb, ne_e
 use Rattle.std.proofs.lemmas.List.Sums.{sum_by-cons}
 use Rattle.std.proofs.lemmas.List.{same_lists}
 use Rattle.ag_pool.specs.Acts.{Acted}
-use Rattle.ag_pool.specs.Schedules.{IsSchedule, change_at, after_acts, EveryScheduleGives}
+use Rattle.ag_pool.specs.Schedules.{change_at, after_acts, EveryScheduleGives}
 
 length-change_at : {S : Type 0} (f : S → S) (k : ℕ) (xs : List S) → length (change_at f k xs) ≡ length xs
 unfolding change_at

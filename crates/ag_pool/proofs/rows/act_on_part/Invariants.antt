@@ -1,4 +1,4 @@
-use Rattle.std.proofs.Common.{ℕ, ◌≡◌, ◌<◌, ◌+◌, ◌*◌, ◌≤◌, length, take, drop}
+use Rattle.std.proofs.Common.{ℕ, ◌≡◌, ◌<◌, ◌+◌, ◌*◌, ◌≤◌, take, drop}
 use Rattle.ag_pool.proofs.rows.act_on_part.Given as goal
 
 abbrev pub invariant-loop-q : goal.invariant-loop-q

@@ -1,7 +1,6 @@
-use Rattle.std.proofs.Common.{ℕ, ◌≡◌, ◌+◌, ◌*◌, ◌/◌, ◌<◌, ◌≤◌, ◌^◌, ◌∙◌, length, List, sym, arith, rules}
+use Rattle.std.proofs.Common.{◌<◌, ◌∙◌, sym, arith, rules}
 use Rattle.linear_theory.specs.Tables.{rows_of}
 use Rattle.linear_theory.proofs.Tables.{length-rows_of}
-use Rattle.ag_pool.specs.Acts.{Acted}
 use Rattle.ag_pool.proofs.Bands.{part_ready, part_numbers, part_first, bands_acted, acted_same}
 use Rattle.ag_pool.proofs.Schedules.{every_schedule}
 use Rattle.ag_pool.proofs.rows.each_row.Goals as goal
