@@ -24,9 +24,7 @@ impl<'a> Source for SureSource<'a> {
 
     ghost tells = { true };
 
-    ghost left = { λ s. s.rest.now };
-
-    ghost faults = { λ _. 0 };
+    ghost view = { λ s. record { left = s.rest.now; faults = 0 } };
 
     fn read(&mut self, buf: &mut [u8]) -> Result<usize, Failed> {
         let count = self.rest.len().min(buf.len());
@@ -54,11 +52,7 @@ impl Sink for NullSink {
 
     ghost tells = { false };
 
-    ghost given = { λ _. [] };
-
-    ghost faults = { λ _. 0 };
-
-    ghost sure = { λ _. 0 };
+    ghost view = { λ _. record { given = []; faults = 0; sure = 0 } };
 
     fn write(&mut self, piece: &[u8]) -> Result<usize, Failed> {
         Ok(piece.len())

@@ -27,9 +27,7 @@ impl<T: Read> Source for ReadSource<T> {
 
     ghost tells = { false };
 
-    ghost left = { λ _. [] };
-
-    ghost faults = { λ s. s.faults };
+    ghost view = { λ s. record { left = []; faults = s.faults } };
 
     fn read(&mut self, buf: &mut [u8]) -> Result<usize, Failed> {
         let faults = self.faults;
@@ -82,9 +80,7 @@ impl<'a, R: Files> Source for FileSource<'a, R> {
 
     ghost tells = { false };
 
-    ghost left = { λ _. [] };
-
-    ghost faults = { λ s. s.faults };
+    ghost view = { λ s. record { left = []; faults = s.faults } };
 
     fn read(&mut self, buf: &mut [u8]) -> Result<usize, Failed> {
         let faults = self.faults;
@@ -117,11 +113,7 @@ impl<T: Write> Sink for WriteSink<T> {
 
     ghost tells = { false };
 
-    ghost given = { λ _. [] };
-
-    ghost faults = { λ s. s.faults };
-
-    ghost sure = { λ _. 0 };
+    ghost view = { λ s. record { given = []; faults = s.faults; sure = 0 } };
 
     fn write(&mut self, piece: &[u8]) -> Result<usize, Failed> {
         let faults = self.faults;

@@ -3,7 +3,7 @@
 ghost use Rattle.std.specs.Prelude.{◌≡◌, ℕ, ◌≤◌};
 ghost use Rattle.code_descriptor.specs.Meaning.{Parts};
 ghost use Rattle.descriptor_code.specs.Codes.{IsDescribed};
-ghost use Rattle.agcode_top.specs.Flows.{flow};
+ghost use Rattle.agcode_top.specs.Flows.{took, gave};
 ghost use Rattle.agcode_top.specs.Runs.{DecodeDid};
 ghost use Rattle.agcode_top.specs.Streams.{decode_status};
 
@@ -48,12 +48,12 @@ pub fn decode<X: Threads + Sync, I: Source, O: Sink, R: Sink, G: Gate>(
     requires some_workers { 1 ≤ workers }
     requires few_workers { workers ≤ 64 }
     ensures did { (p : Parts) → IsDescribed p described.now → DecodeDid p
-        (flow I.tells (I.left input.old) (I.left input.new) (I.faults input.old) (I.faults input.new))
-        (flow O.tells (O.given out.old) (O.given out.new) (O.faults out.old) (O.faults out.new))
-        (flow R.tells (R.given report.old) (R.given report.new) (R.faults report.old) (R.faults report.new)) result }
-    ensures input_counted { I.faults input.old ≤ I.faults input.new }
-    ensures out_counted { O.faults out.old ≤ O.faults out.new }
-    ensures report_counted { R.faults report.old ≤ R.faults report.new }
+        (took I.tells (I.view input.old) (I.view input.new))
+        (gave O.tells (O.view out.old) (O.view out.new))
+        (gave R.tells (R.view report.old) (R.view report.new)) result }
+    ensures input_counted { (I.view input.old).faults ≤ (I.view input.new).faults }
+    ensures out_counted { (O.view out.old).faults ≤ (O.view out.new).faults }
+    ensures report_counted { (R.view report.old).faults ≤ (R.view report.new).faults }
 {
     let code = &described.code;
     let Ok(mut room) = DecodeRoom::new(alloc, code, described.depth, workers) else {

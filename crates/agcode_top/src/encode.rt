@@ -3,7 +3,7 @@
 ghost use Rattle.std.specs.Prelude.{◌≡◌, ℕ, ◌≤◌, IsTrue};
 ghost use Rattle.code_descriptor.specs.Meaning.{Parts};
 ghost use Rattle.descriptor_code.specs.Codes.{IsDescribed};
-ghost use Rattle.agcode_top.specs.Flows.{flow};
+ghost use Rattle.agcode_top.specs.Flows.{took, gave};
 ghost use Rattle.agcode_top.specs.Runs.{EncodeDid};
 ghost use Rattle.agcode_top.specs.Streams.{encode_status};
 
@@ -35,10 +35,10 @@ pub fn encode<I: Source, O: Sink>(
 ) -> Status
     requires { (p : Parts) × IsDescribed p described.now }
     ensures did { (p : Parts) → IsDescribed p described.now → EncodeDid p
-        (flow I.tells (I.left input.old) (I.left input.new) (I.faults input.old) (I.faults input.new))
-        (flow O.tells (O.given out.old) (O.given out.new) (O.faults out.old) (O.faults out.new)) result }
-    ensures input_counted { I.faults input.old ≤ I.faults input.new }
-    ensures out_counted { O.faults out.old ≤ O.faults out.new }
+        (took I.tells (I.view input.old) (I.view input.new))
+        (gave O.tells (O.view out.old) (O.view out.new)) result }
+    ensures input_counted { (I.view input.old).faults ≤ (I.view input.new).faults }
+    ensures out_counted { (O.view out.old).faults ≤ (O.view out.new).faults }
 {
     let code = &described.code;
     let Ok(mut room) = EncodeRoom::new(alloc, code, described.depth) else {

@@ -44,8 +44,8 @@ fn take_piece<I: Source>(
     input: &mut I,
 ) -> Result<Tail, AllocError>
     requires { length piece.old ≡ 4096 }
-    ensures took { IfOk result (Took I.tells (I.left input.old) (I.left input.new) (I.faults input.old) (I.faults input.new) text.old.items text.new.items) }
-    ensures counted { I.faults input.old ≤ I.faults input.new }
+    ensures took { IfOk result (Took I.tells (I.view input.old).left (I.view input.new).left (I.view input.old).faults (I.view input.new).faults text.old.items text.new.items) }
+    ensures counted { (I.view input.old).faults ≤ (I.view input.new).faults }
 {
     match fill(input, piece) {
         Filled::Whole => {
@@ -70,10 +70,10 @@ pub fn read_input<I: Source>(
     input: &mut I,
 ) -> Result<Vec<u8>, InputFault>
     requires { limit ≤ 1099511627776 }
-    ensures all { IfOk result (λ text. IsTrue I.tells → I.left input.old ≡ text.items) }
+    ensures all { IfOk result (λ text. IsTrue I.tells → (I.view input.old).left ≡ text.items) }
     ensures within { IfOk result (λ text. length text.items ≤ limit) }
-    ensures fault { IfErr result (IsInputFault limit I.tells (I.left input.old) (I.faults input.old) (I.faults input.new)) }
-    ensures counted { I.faults input.old ≤ I.faults input.new }
+    ensures fault { IfErr result (IsInputFault limit I.tells (I.view input.old).left (I.view input.old).faults (I.view input.new).faults) }
+    ensures counted { (I.view input.old).faults ≤ (I.view input.new).faults }
 {
     let mut text = Vec::new(alloc);
     let mut piece = [0u8; PIECE];

@@ -5,7 +5,7 @@ ghost use Rattle.command_words.specs.declared.words.Command.TheVariants.{Member}
 ghost use Rattle.command_words.specs.declared.words.Words.{Words};
 ghost use Rattle.code_descriptor.specs.Meaning.{Parts};
 ghost use Rattle.descriptor_code.specs.Codes.{IsDescribed};
-ghost use Rattle.agcode_top.specs.Flows.{flow};
+ghost use Rattle.agcode_top.specs.Flows.{took, gave};
 ghost use Rattle.agcode_top.specs.Runs.{PlainDid};
 
 use crate::status::Status;
@@ -23,10 +23,10 @@ pub fn member<I: Source, O: Sink>(
 ) -> Status
     requires { (p : Parts) × IsDescribed p described.now }
     ensures did { (w : Words) (p : Parts) → IsDescribed p described.now → PlainDid w Member p
-        (flow I.tells (I.left input.old) (I.left input.new) (I.faults input.old) (I.faults input.new))
-        (flow O.tells (O.given out.old) (O.given out.new) (O.faults out.old) (O.faults out.new)) result }
-    ensures input_counted { I.faults input.old ≤ I.faults input.new }
-    ensures out_counted { O.faults out.old ≤ O.faults out.new }
+        (took I.tells (I.view input.old) (I.view input.new))
+        (gave O.tells (O.view out.old) (O.view out.new)) result }
+    ensures input_counted { (I.view input.old).faults ≤ (I.view input.new).faults }
+    ensures out_counted { (O.view out.old).faults ≤ (O.view out.new).faults }
 {
     let code = &described.code;
     let word = match read_word(alloc, code.n() as usize, input) {

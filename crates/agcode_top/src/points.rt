@@ -5,7 +5,7 @@ ghost use Rattle.std.specs.List.{flat_map};
 ghost use Rattle.ag_texts.specs.Lines.{point_line_of};
 ghost use Rattle.code_descriptor.specs.Views.{parts_of, IsDescriptor};
 ghost use Rattle.agcode_top.specs.Commands.{points_text};
-ghost use Rattle.agcode_top.specs.Flows.{Flow, flow};
+ghost use Rattle.agcode_top.specs.Flows.{gave, Flow};
 ghost use Rattle.agcode_top.specs.Runs.{PlainDid};
 ghost use Rattle.command_words.specs.declared.words.Command.TheVariants.{Points};
 ghost use Rattle.command_words.specs.declared.words.Words.{Words};
@@ -44,8 +44,8 @@ fn text_of_points(alloc: Global, d: &Descriptor) -> Result<Vec<u8>, AllocError>
 pub fn points<O: Sink>(alloc: Global, d: &Descriptor, out: &mut O) -> Status
     requires { IsDescriptor d.now }
     ensures did { (w : Words) (input : Flow) → PlainDid w Points (parts_of d.now) input
-        (flow O.tells (O.given out.old) (O.given out.new) (O.faults out.old) (O.faults out.new)) result }
-    ensures out_counted { O.faults out.old ≤ O.faults out.new }
+        (gave O.tells (O.view out.old) (O.view out.new)) result }
+    ensures out_counted { (O.view out.old).faults ≤ (O.view out.new).faults }
 {
     match text_of_points(alloc, d) {
         Ok(text) => answer(out, &text, Status::Done),

@@ -70,9 +70,9 @@ fn status_line(buf: &mut LineBuf, status: &Status)
 
 /// Writes the line of a status. A write that fails is passed over: the status is fixed already.
 pub fn tell<R: Sink>(report: &mut R, status: &Status)
-    ensures given { IsTrue R.tells → GaveOrFailed (R.given report.old) (R.given report.new) (R.faults report.old) (R.faults report.new) (line_of status.now) }
-    ensures quiet { line_of status.now ≡ [] → R.faults report.new ≡ R.faults report.old }
-    ensures counted { R.faults report.old ≤ R.faults report.new }
+    ensures given { IsTrue R.tells → GaveOrFailed (R.view report.old).given (R.view report.new).given (R.view report.old).faults (R.view report.new).faults (line_of status.now) }
+    ensures quiet { line_of status.now ≡ [] → (R.view report.new).faults ≡ (R.view report.old).faults }
+    ensures counted { (R.view report.old).faults ≤ (R.view report.new).faults }
 {
     let mut line = LineBuf::new();
     status_line(&mut line, status);

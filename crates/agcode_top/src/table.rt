@@ -5,7 +5,7 @@ ghost use Rattle.command_words.specs.declared.words.Command.TheVariants.{Bound};
 ghost use Rattle.command_words.specs.declared.words.Words.{Words};
 ghost use Rattle.code_descriptor.specs.Meaning.{Parts};
 ghost use Rattle.descriptor_code.specs.Codes.{IsDescribed};
-ghost use Rattle.agcode_top.specs.Flows.{Flow, flow};
+ghost use Rattle.agcode_top.specs.Flows.{gave, Flow};
 ghost use Rattle.agcode_top.specs.Runs.{PlainDid};
 
 use crate::status::Status;
@@ -19,8 +19,8 @@ use std::alloc::Global;
 pub fn table<O: Sink>(alloc: Global, described: &DescribedCode, out: &mut O) -> Status
     requires { (p : Parts) × IsDescribed p described.now }
     ensures did { (w : Words) (p : Parts) (input : Flow) → IsDescribed p described.now → PlainDid w Bound p input
-        (flow O.tells (O.given out.old) (O.given out.new) (O.faults out.old) (O.faults out.new)) result }
-    ensures out_counted { O.faults out.old ≤ O.faults out.new }
+        (gave O.tells (O.view out.old) (O.view out.new)) result }
+    ensures out_counted { (O.view out.old).faults ≤ (O.view out.new).faults }
 {
     let code = &described.code;
     match table_text(alloc, code.basis(), code.checked()) {

@@ -30,10 +30,10 @@ impl From<AllocError> for TextFault {
 
 // Reads to the end of the source, but at most `room` bytes.
 fn read_at_most<D: Source>(alloc: Global, desc: &mut D, room: usize) -> Result<Vec<u8>, TextFault>
-    ensures front { IfOk result (λ text. IsTrue D.tells → IsFront room text.items (D.left desc.old) (D.left desc.new)) }
-    ensures fault { IfErr result (IsReadFault (D.faults desc.old) (D.faults desc.new)) }
-    ensures taken { IsTrue D.tells → length (D.left desc.old) ≤ length (D.left desc.new) + room }
-    ensures counted { D.faults desc.old ≤ D.faults desc.new }
+    ensures front { IfOk result (λ text. IsTrue D.tells → IsFront room text.items (D.view desc.old).left (D.view desc.new).left) }
+    ensures fault { IfErr result (IsReadFault (D.view desc.old).faults (D.view desc.new).faults) }
+    ensures taken { IsTrue D.tells → length (D.view desc.old).left ≤ length (D.view desc.new).left + room }
+    ensures counted { (D.view desc.old).faults ≤ (D.view desc.new).faults }
 {
     let mut text = vec![in alloc; 0u8; room]?;
     match fill(desc, &mut text) {
@@ -49,10 +49,10 @@ fn read_at_most<D: Source>(alloc: Global, desc: &mut D, room: usize) -> Result<V
 /// Reads the text of the descriptor, but no more than one byte beyond the greatest length. What is left out changes nothing
 /// of what the text means: it is too large.
 pub fn read_text<D: Source>(alloc: Global, desc: &mut D) -> Result<Vec<u8>, TextFault>
-    ensures text { IfOk result (λ text. IsTrue D.tells → meaning text.items ≡ meaning (D.left desc.old)) }
-    ensures fault { IfErr result (IsReadFault (D.faults desc.old) (D.faults desc.new)) }
-    ensures taken { IsTrue D.tells → length (D.left desc.old) ≤ length (D.left desc.new) + 1048577 }
-    ensures counted { D.faults desc.old ≤ D.faults desc.new }
+    ensures text { IfOk result (λ text. IsTrue D.tells → meaning text.items ≡ meaning (D.view desc.old).left) }
+    ensures fault { IfErr result (IsReadFault (D.view desc.old).faults (D.view desc.new).faults) }
+    ensures taken { IsTrue D.tells → length (D.view desc.old).left ≤ length (D.view desc.new).left + 1048577 }
+    ensures counted { (D.view desc.old).faults ≤ (D.view desc.new).faults }
 {
     read_at_most(alloc, desc, ROOM)
 }

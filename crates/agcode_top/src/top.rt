@@ -8,7 +8,7 @@ ghost use Rattle.command_words.specs.Lines.{IsCommandLine};
 ghost use Rattle.code_descriptor.specs.Meaning.{Parts, meaning};
 ghost use Rattle.code_descriptor.specs.Views.{parts_of, IsDescriptor};
 ghost use Rattle.descriptor_code.specs.Codes.{domain_of, IsDescribed};
-ghost use Rattle.agcode_top.specs.Flows.{flow, GaveOrFailed};
+ghost use Rattle.agcode_top.specs.Flows.{took, gave, GaveOrFailed};
 ghost use Rattle.agcode_top.specs.Lines.{line_of};
 ghost use Rattle.agcode_top.specs.Commands.{takes_no_code, IsInputTold, IsRefused};
 ghost use Rattle.agcode_top.specs.Runs.{Did, Carried, Ended, Obeyed, IsAnswer, IsQuiet, IsEarly, IsOwn, is_streamed};
@@ -54,12 +54,12 @@ fn serve<X: Threads + Sync, I: Source, O: Sink, R: Sink, G: Gate>(
     requires few_bytes { asked.now.bytes ≤ 65536 }
     requires described { (p : Parts) × IsDescribed p described.now × (⟦<CabDomain as OrderDomain>⟧.domain described.now.domain ≡ domain_of p) }
     ensures did { (p : Parts) → IsDescribed p described.now → (⟦<CabDomain as OrderDomain>⟧.domain described.now.domain ≡ domain_of p) → Did asked.now asked.now.command p
-        (flow I.tells (I.left input.old) (I.left input.new) (I.faults input.old) (I.faults input.new))
-        (flow O.tells (O.given out.old) (O.given out.new) (O.faults out.old) (O.faults out.new))
-        (flow R.tells (R.given report.old) (R.given report.new) (R.faults report.old) (R.faults report.new)) result }
-    ensures input_counted { I.faults input.old ≤ I.faults input.new }
-    ensures out_counted { O.faults out.old ≤ O.faults out.new }
-    ensures report_counted { R.faults report.old ≤ R.faults report.new }
+        (took I.tells (I.view input.old) (I.view input.new))
+        (gave O.tells (O.view out.old) (O.view out.new))
+        (gave R.tells (R.view report.old) (R.view report.new)) result }
+    ensures input_counted { (I.view input.old).faults ≤ (I.view input.new).faults }
+    ensures out_counted { (O.view out.old).faults ≤ (O.view out.new).faults }
+    ensures report_counted { (R.view report.old).faults ≤ (R.view report.new).faults }
 {
     match asked.command {
         Command::Member => member(alloc, described, input, out),
@@ -100,12 +100,12 @@ fn compile_and_serve<X: Threads + Sync, I: Source, O: Sink, R: Sink, G: Gate>(
     requires few_bytes { asked.now.bytes ≤ 65536 }
     requires descriptor { IsDescriptor descriptor }
     ensures carried { Carried asked.now asked.now.command (parts_of descriptor)
-        (flow I.tells (I.left input.old) (I.left input.new) (I.faults input.old) (I.faults input.new))
-        (flow O.tells (O.given out.old) (O.given out.new) (O.faults out.old) (O.faults out.new))
-        (flow R.tells (R.given report.old) (R.given report.new) (R.faults report.old) (R.faults report.new)) result }
-    ensures input_counted { I.faults input.old ≤ I.faults input.new }
-    ensures out_counted { O.faults out.old ≤ O.faults out.new }
-    ensures report_counted { R.faults report.old ≤ R.faults report.new }
+        (took I.tells (I.view input.old) (I.view input.new))
+        (gave O.tells (O.view out.old) (O.view out.new))
+        (gave R.tells (R.view report.old) (R.view report.new)) result }
+    ensures input_counted { (I.view input.old).faults ≤ (I.view input.new).faults }
+    ensures out_counted { (O.view out.old).faults ≤ (O.view out.new).faults }
+    ensures report_counted { (R.view report.old).faults ≤ (R.view report.new).faults }
 {
     if descriptor.points.as_slice().is_empty() {
         return Status::Descriptor {
@@ -136,15 +136,15 @@ fn carry_out<X: Threads + Sync, D: Source, I: Source, O: Sink, R: Sink, G: Gate>
     requires few_workers { asked.now.workers ≤ 64 }
     requires few_bytes { asked.now.bytes ≤ 65536 }
     ensures ended { Ended asked.now asked.now.command
-        (flow D.tells (D.left desc.old) (D.left desc.new) (D.faults desc.old) (D.faults desc.new))
-        (flow I.tells (I.left input.old) (I.left input.new) (I.faults input.old) (I.faults input.new))
-        (flow O.tells (O.given out.old) (O.given out.new) (O.faults out.old) (O.faults out.new))
-        (flow R.tells (R.given report.old) (R.given report.new) (R.faults report.old) (R.faults report.new)) result }
-    ensures desc_taken { IsTrue D.tells → length (D.left desc.old) ≤ length (D.left desc.new) + 1048577 }
-    ensures desc_counted { D.faults desc.old ≤ D.faults desc.new }
-    ensures input_counted { I.faults input.old ≤ I.faults input.new }
-    ensures out_counted { O.faults out.old ≤ O.faults out.new }
-    ensures report_counted { R.faults report.old ≤ R.faults report.new }
+        (took D.tells (D.view desc.old) (D.view desc.new))
+        (took I.tells (I.view input.old) (I.view input.new))
+        (gave O.tells (O.view out.old) (O.view out.new))
+        (gave R.tells (R.view report.old) (R.view report.new)) result }
+    ensures desc_taken { IsTrue D.tells → length (D.view desc.old).left ≤ length (D.view desc.new).left + 1048577 }
+    ensures desc_counted { (D.view desc.old).faults ≤ (D.view desc.new).faults }
+    ensures input_counted { (I.view input.old).faults ≤ (I.view input.new).faults }
+    ensures out_counted { (O.view out.old).faults ≤ (O.view out.new).faults }
+    ensures report_counted { (R.view report.old).faults ≤ (R.view report.new).faults }
 {
     let text = match read_text(alloc, desc) {
         Ok(text) => text,
@@ -174,15 +174,15 @@ fn obey<X: Threads + Sync, D: Source, I: Source, O: Sink, R: Sink, G: Gate>(
     gate: &G,
 ) -> Status
     ensures obeyed { Obeyed (map string_bytes words.now)
-        (flow D.tells (D.left desc.old) (D.left desc.new) (D.faults desc.old) (D.faults desc.new))
-        (flow I.tells (I.left input.old) (I.left input.new) (I.faults input.old) (I.faults input.new))
-        (flow O.tells (O.given out.old) (O.given out.new) (O.faults out.old) (O.faults out.new))
-        (flow R.tells (R.given report.old) (R.given report.new) (R.faults report.old) (R.faults report.new)) result }
-    ensures desc_taken { IsTrue D.tells → length (D.left desc.old) ≤ length (D.left desc.new) + 1048577 }
-    ensures desc_counted { D.faults desc.old ≤ D.faults desc.new }
-    ensures input_counted { I.faults input.old ≤ I.faults input.new }
-    ensures out_counted { O.faults out.old ≤ O.faults out.new }
-    ensures report_counted { R.faults report.old ≤ R.faults report.new }
+        (took D.tells (D.view desc.old) (D.view desc.new))
+        (took I.tells (I.view input.old) (I.view input.new))
+        (gave O.tells (O.view out.old) (O.view out.new))
+        (gave R.tells (R.view report.old) (R.view report.new)) result }
+    ensures desc_taken { IsTrue D.tells → length (D.view desc.old).left ≤ length (D.view desc.new).left + 1048577 }
+    ensures desc_counted { (D.view desc.old).faults ≤ (D.view desc.new).faults }
+    ensures input_counted { (I.view input.old).faults ≤ (I.view input.new).faults }
+    ensures out_counted { (O.view out.old).faults ≤ (O.view out.new).faults }
+    ensures report_counted { (R.view report.old).faults ≤ (R.view report.new).faults }
 {
     let Some(asked) = read_words(words) else {
         return Status::Usage;
@@ -206,74 +206,74 @@ pub fn run<X: Threads + Sync, D: Source, I: Source, O: Sink, R: Sink, G: Gate>(
     // the headline: encoding, repair, reading, completeness
     ensures encode { (w : Words) → IsCommandLine (map string_bytes words.now) w → w.command ≡ Encode → result ≡ Status.Done → IsTrue D.tells → IsTrue I.tells →
         HasImage
-        (flow D.tells (D.left desc.old) (D.left desc.new) (D.faults desc.old) (D.faults desc.new))
-        (flow I.tells (I.left input.old) (I.left input.new) (I.faults input.old) (I.faults input.new))
-        (flow O.tells (O.given out.old) (O.given out.new) (O.faults out.old) (O.faults out.new)) }
+        (took D.tells (D.view desc.old) (D.view desc.new))
+        (took I.tells (I.view input.old) (I.view input.new))
+        (gave O.tells (O.view out.old) (O.view out.new)) }
     ensures repair { (w : Words) → IsCommandLine (map string_bytes words.now) w → w.command ≡ Decode →
         IsRepair
-        (flow D.tells (D.left desc.old) (D.left desc.new) (D.faults desc.old) (D.faults desc.new))
-        (flow I.tells (I.left input.old) (I.left input.new) (I.faults input.old) (I.faults input.new))
-        (flow O.tells (O.given out.old) (O.given out.new) (O.faults out.old) (O.faults out.new))
-        (flow R.tells (R.given report.old) (R.given report.new) (R.faults report.old) (R.faults report.new)) result }
+        (took D.tells (D.view desc.old) (D.view desc.new))
+        (took I.tells (I.view input.old) (I.view input.new))
+        (gave O.tells (O.view out.old) (O.view out.new))
+        (gave R.tells (R.view report.old) (R.view report.new)) result }
     ensures reading { (w : Words) → IsCommandLine (map string_bytes words.now) w → w.command ≡ Decode → IsRead result → IsTrue D.tells → IsTrue I.tells →
         ReadAs
-        (flow D.tells (D.left desc.old) (D.left desc.new) (D.faults desc.old) (D.faults desc.new))
-        (flow I.tells (I.left input.old) (I.left input.new) (I.faults input.old) (I.faults input.new))
-        (flow O.tells (O.given out.old) (O.given out.new) (O.faults out.old) (O.faults out.new))
-        (flow R.tells (R.given report.old) (R.given report.new) (R.faults report.old) (R.faults report.new)) result }
+        (took D.tells (D.view desc.old) (D.view desc.new))
+        (took I.tells (I.view input.old) (I.view input.new))
+        (gave O.tells (O.view out.old) (O.view out.new))
+        (gave R.tells (R.view report.old) (R.view report.new)) result }
     ensures complete { (w : Words) → IsCommandLine (map string_bytes words.now) w →
         Completed w.command
-        (flow D.tells (D.left desc.old) (D.left desc.new) (D.faults desc.old) (D.faults desc.new))
-        (flow I.tells (I.left input.old) (I.left input.new) (I.faults input.old) (I.faults input.new))
-        (flow O.tells (O.given out.old) (O.given out.new) (O.faults out.old) (O.faults out.new))
-        (flow R.tells (R.given report.old) (R.given report.new) (R.faults report.old) (R.faults report.new)) result }
+        (took D.tells (D.view desc.old) (D.view desc.new))
+        (took I.tells (I.view input.old) (I.view input.new))
+        (gave O.tells (O.view out.old) (O.view out.new))
+        (gave R.tells (R.view report.old) (R.view report.new)) result }
 
     // each status only by its cause
     ensures usage { result ≡ Status.Usage ↔ ((w : Words) → IsCommandLine (map string_bytes words.now) w → ⊥) }
     ensures descriptor { (w : Words) → IsCommandLine (map string_bytes words.now) w →
-        (cause : DescCause) → result ≡ Status.Descriptor cause → IsTrue D.tells → IsRefused w.command (meaning (D.left desc.old)) cause }
-    ensures desc_fault { result ≡ Status.DescFault → Rose (D.faults desc.old) (D.faults desc.new) }
-    ensures input_fault { result ≡ Status.InputFault → Rose (I.faults input.old) (I.faults input.new) }
-    ensures out_fault { result ≡ Status.OutFault → Rose (O.faults out.old) (O.faults out.new) }
-    ensures report_fault { result ≡ Status.ReportFault → Rose (R.faults report.old) (R.faults report.new) }
+        (cause : DescCause) → result ≡ Status.Descriptor cause → IsTrue D.tells → IsRefused w.command (meaning (D.view desc.old).left) cause }
+    ensures desc_fault { result ≡ Status.DescFault → Rose (D.view desc.old).faults (D.view desc.new).faults }
+    ensures input_fault { result ≡ Status.InputFault → Rose (I.view input.old).faults (I.view input.new).faults }
+    ensures out_fault { result ≡ Status.OutFault → Rose (O.view out.old).faults (O.view out.new).faults }
+    ensures report_fault { result ≡ Status.ReportFault → Rose (R.view report.old).faults (R.view report.new).faults }
 
     // what the other commands say, by the descriptor and the input, with their text on out
     ensures answer { (w : Words) → IsCommandLine (map string_bytes words.now) w → is_streamed w.command ≡ false → IsAnswer result → IsTrue D.tells → IsInputTold w.command I.tells →
         Answered w
-        (flow D.tells (D.left desc.old) (D.left desc.new) (D.faults desc.old) (D.faults desc.new))
-        (flow I.tells (I.left input.old) (I.left input.new) (I.faults input.old) (I.faults input.new))
-        (flow O.tells (O.given out.old) (O.given out.new) (O.faults out.old) (O.faults out.new)) result }
+        (took D.tells (D.view desc.old) (D.view desc.new))
+        (took I.tells (I.view input.old) (I.view input.new))
+        (gave O.tells (O.view out.old) (O.view out.new)) result }
 
     // all that encode and decode leave, by the status that they end with
     ensures encoded { (w : Words) → IsCommandLine (map string_bytes words.now) w → w.command ≡ Encode → IsOwn result → IsTrue D.tells →
         EncodedBy
-        (flow D.tells (D.left desc.old) (D.left desc.new) (D.faults desc.old) (D.faults desc.new))
-        (flow I.tells (I.left input.old) (I.left input.new) (I.faults input.old) (I.faults input.new))
-        (flow O.tells (O.given out.old) (O.given out.new) (O.faults out.old) (O.faults out.new)) result }
+        (took D.tells (D.view desc.old) (D.view desc.new))
+        (took I.tells (I.view input.old) (I.view input.new))
+        (gave O.tells (O.view out.old) (O.view out.new)) result }
     ensures decoded { (w : Words) → IsCommandLine (map string_bytes words.now) w → w.command ≡ Decode → IsOwn result → IsTrue D.tells →
         DecodedBy
-        (flow D.tells (D.left desc.old) (D.left desc.new) (D.faults desc.old) (D.faults desc.new))
-        (flow I.tells (I.left input.old) (I.left input.new) (I.faults input.old) (I.faults input.new))
-        (flow O.tells (O.given out.old) (O.given out.new) (O.faults out.old) (O.faults out.new))
-        (flow R.tells (R.given report.old) (R.given report.new) (R.faults report.old) (R.faults report.new)) result }
+        (took D.tells (D.view desc.old) (D.view desc.new))
+        (took I.tells (I.view input.old) (I.view input.new))
+        (gave O.tells (O.view out.old) (O.view out.new))
+        (gave R.tells (R.view report.old) (R.view report.new)) result }
 
     // what stands on out, on report and in the sources after a refusal
     ensures front { (w : Words) → IsCommandLine (map string_bytes words.now) w → is_streamed w.command ≡ false → result ≡ Status.OutFault → IsTrue D.tells → IsInputTold w.command I.tells →
         GaveFront w
-        (flow D.tells (D.left desc.old) (D.left desc.new) (D.faults desc.old) (D.faults desc.new))
-        (flow I.tells (I.left input.old) (I.left input.new) (I.faults input.old) (I.faults input.new))
-        (flow O.tells (O.given out.old) (O.given out.new) (O.faults out.old) (O.faults out.new)) }
-    ensures quiet { (w : Words) → IsCommandLine (map string_bytes words.now) w → IsQuiet (is_streamed w.command) result → IsTrue O.tells → O.given out.new ≡ O.given out.old }
-    ensures early { IsEarly result → IsTrue I.tells → I.left input.new ≡ I.left input.old }
+        (took D.tells (D.view desc.old) (D.view desc.new))
+        (took I.tells (I.view input.old) (I.view input.new))
+        (gave O.tells (O.view out.old) (O.view out.new)) }
+    ensures quiet { (w : Words) → IsCommandLine (map string_bytes words.now) w → IsQuiet (is_streamed w.command) result → IsTrue O.tells → (O.view out.new).given ≡ (O.view out.old).given }
+    ensures early { IsEarly result → IsTrue I.tells → (I.view input.new).left ≡ (I.view input.old).left }
     ensures report { ((w : Words) → IsCommandLine (map string_bytes words.now) w → w.command ≡ Decode → IsOwn result → ⊥) → IsTrue R.tells →
-        GaveOrFailed (R.given report.old) (R.given report.new) (R.faults report.old) (R.faults report.new) (line_of result) }
-    ensures desc_taken { IsTrue D.tells → length (D.left desc.old) ≤ length (D.left desc.new) + 1048577 }
+        GaveOrFailed (R.view report.old).given (R.view report.new).given (R.view report.old).faults (R.view report.new).faults (line_of result) }
+    ensures desc_taken { IsTrue D.tells → length (D.view desc.old).left ≤ length (D.view desc.new).left + 1048577 }
 
     // counts of faults never fall
-    ensures desc_counted { D.faults desc.old ≤ D.faults desc.new }
-    ensures input_counted { I.faults input.old ≤ I.faults input.new }
-    ensures out_counted { O.faults out.old ≤ O.faults out.new }
-    ensures report_counted { R.faults report.old ≤ R.faults report.new }
+    ensures desc_counted { (D.view desc.old).faults ≤ (D.view desc.new).faults }
+    ensures input_counted { (I.view input.old).faults ≤ (I.view input.new).faults }
+    ensures out_counted { (O.view out.old).faults ≤ (O.view out.new).faults }
+    ensures report_counted { (R.view report.old).faults ≤ (R.view report.new).faults }
 {
     let status = obey(rt, alloc, words, desc, input, out, report, gate);
     tell(report, &status);

@@ -4,7 +4,7 @@ ghost use Rattle.std.specs.Prelude.{◌≡◌, ℕ, ◌≤◌};
 ghost use Rattle.command_words.specs.declared.words.Command.TheVariants.{Trial};
 ghost use Rattle.code_descriptor.specs.Meaning.{Parts};
 ghost use Rattle.descriptor_code.specs.Codes.{IsDescribed};
-ghost use Rattle.agcode_top.specs.Flows.{Flow, flow};
+ghost use Rattle.agcode_top.specs.Flows.{gave, Flow};
 ghost use Rattle.agcode_top.specs.Runs.{PlainDid};
 
 use crate::status::Status;
@@ -27,8 +27,8 @@ pub fn trial<X: Threads + Sync, O: Sink>(
     requires described { (p : Parts) × IsDescribed p described.now }
     requires few_bytes { asked.now.bytes ≤ 65536 }
     ensures did { (p : Parts) (input : Flow) → IsDescribed p described.now → PlainDid asked.now Trial p input
-        (flow O.tells (O.given out.old) (O.given out.new) (O.faults out.old) (O.faults out.new)) result }
-    ensures out_counted { O.faults out.old ≤ O.faults out.new }
+        (gave O.tells (O.view out.old) (O.view out.new)) result }
+    ensures out_counted { (O.view out.old).faults ≤ (O.view out.new).faults }
 {
     let code = &described.code;
     let radius = code.radius();

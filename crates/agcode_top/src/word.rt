@@ -1,7 +1,7 @@
 //! A word of the input, and a text of out.
 
 ghost use Rattle.std.specs.Prelude.{◌≡◌, ℕ, ◌≤◌, length, IsTrue, IfOk, IfErr};
-ghost use Rattle.agcode_top.specs.Flows.{flow};
+ghost use Rattle.agcode_top.specs.Flows.{took, gave};
 ghost use Rattle.agcode_top.specs.Steps.{IsWordFault, GaveText};
 
 use crate::status::Status;
@@ -13,9 +13,9 @@ use std::alloc::Global;
 pub fn read_word<I: Source>(alloc: Global, n: usize, input: &mut I) -> Result<Vec<u8>, Status>
     requires { n ≤ 1024 }
     ensures long { IfOk result (λ word. length word.items ≡ n) }
-    ensures word { IfOk result (λ word. IsTrue I.tells → I.left input.old ≡ word.items) }
-    ensures fault { IfErr result (IsWordFault n (flow I.tells (I.left input.old) (I.left input.new) (I.faults input.old) (I.faults input.new))) }
-    ensures counted { I.faults input.old ≤ I.faults input.new }
+    ensures word { IfOk result (λ word. IsTrue I.tells → (I.view input.old).left ≡ word.items) }
+    ensures fault { IfErr result (IsWordFault n (took I.tells (I.view input.old) (I.view input.new))) }
+    ensures counted { (I.view input.old).faults ≤ (I.view input.new).faults }
 {
     let Ok(mut word) = vec![in alloc; 0u8; n + 1] else {
         return Err(Status::NoMemory);
@@ -37,8 +37,8 @@ pub fn read_word<I: Source>(alloc: Global, n: usize, input: &mut I) -> Result<Ve
 
 /// Writes a text, and answers the status, or that the output could not be written.
 pub fn answer<O: Sink>(out: &mut O, text: &[u8], status: Status) -> Status
-    ensures given { GaveText (flow O.tells (O.given out.old) (O.given out.new) (O.faults out.old) (O.faults out.new)) text.now status result }
-    ensures counted { O.faults out.old ≤ O.faults out.new }
+    ensures given { GaveText (gave O.tells (O.view out.old) (O.view out.new)) text.now status result }
+    ensures counted { (O.view out.old).faults ≤ (O.view out.new).faults }
 {
     match put(out, text) {
         Ok(()) => status,

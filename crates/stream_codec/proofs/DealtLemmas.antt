@@ -18,7 +18,8 @@ use Rattle.stored_form.proofs.StreamLemmas.{blocks_of_rest, blocks_more, differe
 use Rattle.stored_form.proofs.DecoderLemmas.{AllNear-more, corrected-append, corrected_more, length-corrected_at, whole_bytes_front}
 use Rattle.stream_codec.proofs.ToldLemmas.{changes_to_front, changes_to-append, told_at_least}
 use Rattle.stream_codec.specs.Dealing.{IsNear, FirstLost, counted, GroupDealt, GroupFault, Dealt, TextRefused, TextFault}
-use Rattle.stream_codec.specs.Giving.{SinkView, Wrote, WroteSome}
+use Rattle.ag_io.specs.Views.{SinkView}
+use Rattle.stream_codec.specs.Giving.{Wrote, WroteSome}
 use Rattle.stream_codec.specs.Report.{changes_to, place_changes, changes_from, lines_of, lines, done, report_of, sure_bytes}
 use Rattle.stream_codec.specs.Writing.{bytes_left}
 use Rattle.coded_block.specs.Codes.{at_depth}

@@ -12,7 +12,7 @@ use Rattle.stored_form.specs.Reading.{Beyond as ReadBeyond, Ragged as ReadRagged
 use Rattle.stream_codec.specs.Dealing.{Dealt, TextRefused, TextFault, TextEnded}
 use Rattle.stream_codec.specs.Decoding.{Decode, answer_by, groups_within, Refuses, ToldAs, FaultAs, DecodedAs, IsComplete}
 use Rattle.ag_frame.specs.declared.frame.Layout.{Layout}
-use Rattle.stream_codec.specs.Giving.{SinkView, SourceView}
+use Rattle.ag_io.specs.Views.{SinkView, SourceView}
 use Rattle.stream_codec.specs.Slots.{SlotState}
 use Rattle.stream_codec.specs.Windows.{TailSays, WindowFilled}
 use Rattle.stream_codec.specs.declared.window.Filling.{Filling}

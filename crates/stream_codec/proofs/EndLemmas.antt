@@ -15,7 +15,8 @@ use Rattle.stored_form.proofs.ConverseLemmas.{reading_ragged_from}
 use Rattle.stored_form.proofs.DecoderLemmas.{IsHolding, reading_held_file, reading_held_no_one, reading_held_no_bytes, corrected-append, length-corrected_at}
 use Rattle.stored_form.proofs.StreamLemmas.{blocks-append, blocks_of_rest}
 use Rattle.stream_codec.specs.Dealing.{IsNear, WroteFront, Dealt, TextDone, TextRefused, TextFault}
-use Rattle.stream_codec.specs.Giving.{SinkView, Wrote, WroteSome}
+use Rattle.ag_io.specs.Views.{SinkView}
+use Rattle.stream_codec.specs.Giving.{Wrote, WroteSome}
 use Rattle.stream_codec.specs.Report.{changes_to, lines_of, lines, done, done_at, report_of, sure_bytes}
 use Rattle.stream_codec.specs.Writing.{bytes_left, EndsFile, EndsNoFile}
 use Rattle.stream_codec.specs.declared.decode.DecodeCounts.{DecodeCounts}

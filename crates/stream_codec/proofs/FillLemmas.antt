@@ -11,7 +11,7 @@ use Rattle.ag_frame.specs.Layouts.{IsLayout}
 use Rattle.stored_form.specs.Bits.{whole_pieces}
 use Rattle.stored_form.specs.Group.{gather}
 use Rattle.stored_form.proofs.Lists.{whole_pieces-append, whole_pieces_one, whole_pieces_none, times_mod}
-use Rattle.stream_codec.specs.Giving.{SourceView}
+use Rattle.ag_io.specs.Views.{SourceView}
 use Rattle.stream_codec.specs.Slots.{SlotState, blocks_of}
 use Rattle.stream_codec.specs.Windows.{blocks_at, TailSays, WindowFilled}
 use Rattle.stream_codec.specs.declared.window.Filling.{Filling}

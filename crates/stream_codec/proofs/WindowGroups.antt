@@ -17,7 +17,7 @@ use Rattle.stream_codec.specs.Layouts.{Fits}
 use Rattle.stream_codec.specs.Slots.{SlotState, CanDecode, IsSettled, decoded, blocks_of}
 use Rattle.stream_codec.specs.Windows.{WindowState, blocks_at}
 use Rattle.ag_frame.specs.Queues.{OutState}
-use Rattle.stream_codec.specs.Giving.{SinkView, SourceView}
+use Rattle.ag_io.specs.Views.{SinkView, SourceView}
 use Rattle.stream_codec.specs.Dealing.{CountsFit, HoldsGroups, Dealt}
 use Rattle.stream_codec.specs.declared.decode.DecodeCounts.{DecodeCounts}
 use Rattle.stream_codec.proofs.DealtLemmas.{count_is, even_is}

@@ -1,7 +1,8 @@
 -- What sinks were given, call by call.
 use Rattle.std.proofs.Common.{ℕ, ◌≡◌, Bool, List, [], ◌++◌, refl, sym, ap, ◌∙◌, arith, append_assoc}
 use Rattle.std.proofs.lemmas.List.{append-nil}
-use Rattle.stream_codec.specs.Giving.{GavePart, SinkView, GivesPart, Wrote, WroteAllBut, WroteSome}
+use Rattle.ag_io.specs.Views.{SinkView}
+use Rattle.stream_codec.specs.Giving.{GavePart, GivesPart, Wrote, WroteAllBut, WroteSome}
 use Rattle.stream_codec.proofs.Gifts.{rose_after, given_more, part_of_longer}
 
 pub wrote_nothing : (tells : Bool) (s : SinkView) → Wrote tells s s []

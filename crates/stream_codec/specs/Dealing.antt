@@ -19,7 +19,8 @@ use Rattle.stored_form.specs.Form.{Form}
 use Rattle.stored_form.specs.Frame.{group_bytes}
 use Rattle.stored_form.specs.Reading.{Reading, blocks, kept, message_bits, corrected, reading, out as output}
 use Rattle.stored_form.specs.Reading.{Beyond as ReadBeyond, Ragged as ReadRagged, Framing as ReadFraming, File as ReadFile}
-use Rattle.stream_codec.specs.Giving.{SinkView, GivesPart, Wrote, WroteSome}
+use Rattle.ag_io.specs.Views.{SinkView}
+use Rattle.stream_codec.specs.Giving.{GivesPart, Wrote, WroteSome}
 use Rattle.stream_codec.specs.Report.{changes_to, changes_from, lines_of, lines, report_of, sure_bytes, counts_of}
 use Rattle.stream_codec.specs.Slots.{IsSettled, blocks_of}
 use Rattle.stream_codec.specs.Windows.{WindowState, blocks_at}

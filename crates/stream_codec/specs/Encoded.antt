@@ -16,7 +16,8 @@ use Rattle.stored_form.specs.Bits.{bits_of_symbols}
 use Rattle.stored_form.specs.Form.{Form}
 use Rattle.stored_form.specs.Frame.{group_bytes, image}
 use Rattle.stream_codec.specs.Encoding.{full_groups, within}
-use Rattle.stream_codec.specs.Giving.{SinkView, SourceView, Gives, GivesPart}
+use Rattle.ag_io.specs.Views.{SinkView, SourceView, Gives}
+use Rattle.stream_codec.specs.Giving.{GivesPart}
 use Rattle.stream_codec.specs.declared.encode.EncodeCounts.{EncodeCounts}
 use Rattle.stream_codec.specs.declared.encode.EncodeFault.{EncodeFault}
 use Rattle.stream_codec.specs.declared.encode.EncodeFault.TheVariants.{InputFault, OutFault, TooLong}

@@ -9,7 +9,7 @@ use Rattle.ag_frame.specs.declared.frame.Layout.{Layout}
 use Rattle.ag_frame.specs.Layouts.{IsLayout, bytes_in_group}
 use Rattle.stored_form.specs.Bits.{whole_pieces}
 use Rattle.stored_form.specs.Group.{gather}
-use Rattle.stream_codec.specs.Giving.{SourceView}
+use Rattle.ag_io.specs.Views.{SourceView}
 use Rattle.stream_codec.specs.Slots.{SlotState, blocks_of}
 use Rattle.stream_codec.specs.declared.window.Filling.{Filling}
 use Rattle.stream_codec.specs.declared.window.Tail.{Tail}

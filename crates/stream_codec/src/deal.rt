@@ -6,7 +6,7 @@ ghost use Rattle.stored_form.specs.Form.{Form};
 ghost use Rattle.coded_block.specs.Codes.{IsCode, at_depth};
 ghost use Rattle.stream_codec.specs.Layouts.{Fits};
 ghost use Rattle.stream_codec.specs.Dealing.{IsNear, FirstLost, CountsFit, GroupDealt, GroupFault, HoldsGroups, Dealt, TextFault};
-ghost use Rattle.stream_codec.specs.Giving.{SinkView};
+ghost use Rattle.ag_io.specs.Views.{SinkView};
 ghost use Rattle.stream_codec.specs.Slots.{IsSettled, blocks_of};
 
 use crate::decode::{DecodeCounts, DecodeFault};
@@ -33,7 +33,7 @@ pub fn deal_groups<C: BlockCode, O: Sink, R: Sink>(
     requires width { writer.old.width ≡ window.now.layout.bits }
     requires counts { CountsFit counts.old }
     requires groups { counts.old.groups + groups ≤ 1099511627776 }
-    ensures dealt { (z w : List ℕ) (out_first report_first : SinkView) → HoldsGroups (C.form code.now) window.now groups w → Dealt (at_depth window.now.layout.depth (C.form code.now)) O.tells out_first (record { given = O.given sink.old; faults = O.faults sink.old; sure = O.sure sink.old }) R.tells report_first (record { given = R.given report.old; faults = R.faults report.old; sure = R.sure report.old }) writer.old counts.old z → MatchResult result (λ _. Dealt (at_depth window.now.layout.depth (C.form code.now)) O.tells out_first (record { given = O.given sink.new; faults = O.faults sink.new; sure = O.sure sink.new }) R.tells report_first (record { given = R.given report.new; faults = R.faults report.new; sure = R.sure report.new }) writer.new counts.new (z ++ w)) (λ fault. (more : List ℕ) → TextFault (at_depth window.now.layout.depth (C.form code.now)) O.tells out_first (record { given = O.given sink.new; faults = O.faults sink.new; sure = O.sure sink.new }) R.tells report_first (record { given = R.given report.new; faults = R.faults report.new; sure = R.sure report.new }) (z ++ (w ++ more)) fault) }
+    ensures dealt { (z w : List ℕ) (out_first report_first : SinkView) → HoldsGroups (C.form code.now) window.now groups w → Dealt (at_depth window.now.layout.depth (C.form code.now)) O.tells out_first (O.view sink.old) R.tells report_first (R.view report.old) writer.old counts.old z → MatchResult result (λ _. Dealt (at_depth window.now.layout.depth (C.form code.now)) O.tells out_first (O.view sink.new) R.tells report_first (R.view report.new) writer.new counts.new (z ++ w)) (λ fault. (more : List ℕ) → TextFault (at_depth window.now.layout.depth (C.form code.now)) O.tells out_first (O.view sink.new) R.tells report_first (R.view report.new) (z ++ (w ++ more)) fault) }
     ensures counts { IfOk result (λ _. CountsFit counts.new) }
     ensures groups { IfOk result (λ _. counts.new.groups ≡ counts.old.groups + groups) }
     ensures size { writer.new.size ≡ writer.old.size }
@@ -61,7 +61,7 @@ fn deal_group<C: BlockCode, O: Sink, R: Sink>(
     requires width { writer.old.width ≡ (C.form code.now).bits }
     requires counts { CountsFit counts.old }
     requires groups { counts.old.groups < 1099511627776 }
-    ensures dealt { MatchResult result (λ _. GroupDealt (C.form code.now) O.tells (record { given = O.given sink.old; faults = O.faults sink.old; sure = O.sure sink.old }) (record { given = O.given sink.new; faults = O.faults sink.new; sure = O.sure sink.new }) R.tells (record { given = R.given report.old; faults = R.faults report.old; sure = R.sure report.old }) (record { given = R.given report.new; faults = R.faults report.new; sure = R.sure report.new }) writer.old writer.new counts.old counts.new (blocks_of slots.now)) (λ fault. GroupFault (C.form code.now) O.tells (record { given = O.given sink.old; faults = O.faults sink.old; sure = O.sure sink.old }) (record { given = O.given sink.new; faults = O.faults sink.new; sure = O.sure sink.new }) R.tells (record { given = R.given report.old; faults = R.faults report.old; sure = R.sure report.old }) (record { given = R.given report.new; faults = R.faults report.new; sure = R.sure report.new }) writer.old counts.old (blocks_of slots.now) fault) }
+    ensures dealt { MatchResult result (λ _. GroupDealt (C.form code.now) O.tells (O.view sink.old) (O.view sink.new) R.tells (R.view report.old) (R.view report.new) writer.old writer.new counts.old counts.new (blocks_of slots.now)) (λ fault. GroupFault (C.form code.now) O.tells (O.view sink.old) (O.view sink.new) R.tells (R.view report.old) (R.view report.new) writer.old counts.old (blocks_of slots.now) fault) }
     ensures counts { IfOk result (λ _. CountsFit counts.new) }
     ensures size { writer.new.size ≡ writer.old.size }
     ensures width { writer.new.width ≡ writer.old.width }

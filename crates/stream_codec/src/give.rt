@@ -7,7 +7,9 @@ use ag_io::{Failed, Sink, put};
 
 /// Writes all of these bytes.
 pub fn give<S: Sink>(sink: &mut S, bytes: &[u8]) -> Result<(), Failed>
-    ensures { MatchResult result (λ _. Wrote S.tells (record { given = S.given sink.old; faults = S.faults sink.old; sure = S.sure sink.old }) (record { given = S.given sink.new; faults = S.faults sink.new; sure = S.sure sink.new }) bytes.now) (λ _. WroteSome S.tells (record { given = S.given sink.old; faults = S.faults sink.old; sure = S.sure sink.old }) (record { given = S.given sink.new; faults = S.faults sink.new; sure = S.sure sink.new }) bytes.now) }
+    ensures { MatchResult result
+        (λ _. Wrote S.tells (S.view sink.old) (S.view sink.new) bytes.now)
+        (λ _. WroteSome S.tells (S.view sink.old) (S.view sink.new) bytes.now) }
 {
     put(sink, bytes)?;
     Ok(())

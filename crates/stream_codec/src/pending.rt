@@ -36,7 +36,7 @@ impl Pending {
     /// Adds a line. Where it does not fit behind what waits, that is written first.
     pub fn add<R: Sink>(&mut self, line: &[u8], report: &mut R) -> Result<(), Failed>
         requires { length line.now ≤ 4096 }
-        ensures { MatchResult result (λ _. WroteAllBut R.tells (record { given = R.given report.old; faults = R.faults report.old; sure = R.sure report.old }) (record { given = R.given report.new; faults = R.faults report.new; sure = R.sure report.new }) (self.old ++ line.now) self.new) (λ _. WroteSome R.tells (record { given = R.given report.old; faults = R.faults report.old; sure = R.sure report.old }) (record { given = R.given report.new; faults = R.faults report.new; sure = R.sure report.new }) (self.old ++ line.now)) }
+        ensures { MatchResult result (λ _. WroteAllBut R.tells (R.view report.old) (R.view report.new) (self.old ++ line.now) self.new) (λ _. WroteSome R.tells (R.view report.old) (R.view report.new) (self.old ++ line.now)) }
     {
         if line.len() > self.bytes.len() - self.used {
             self.write(report)?;
@@ -47,7 +47,7 @@ impl Pending {
 
     /// Writes what waits. Where nothing does, no write is made.
     pub fn write<R: Sink>(&mut self, report: &mut R) -> Result<(), Failed>
-        ensures written { MatchResult result (λ _. Wrote R.tells (record { given = R.given report.old; faults = R.faults report.old; sure = R.sure report.old }) (record { given = R.given report.new; faults = R.faults report.new; sure = R.sure report.new }) self.old) (λ _. WroteSome R.tells (record { given = R.given report.old; faults = R.faults report.old; sure = R.sure report.old }) (record { given = R.given report.new; faults = R.faults report.new; sure = R.sure report.new }) self.old) }
+        ensures written { MatchResult result (λ _. Wrote R.tells (R.view report.old) (R.view report.new) self.old) (λ _. WroteSome R.tells (R.view report.old) (R.view report.new) self.old) }
         ensures none { self.new ≡ [] }
     {
         let used = self.used;

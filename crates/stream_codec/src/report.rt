@@ -24,7 +24,7 @@ pub fn tell_group<B: BlockBench, R: Sink>(
     requires n_few { n ≤ 1024 }
     requires got_long { All (λ s. length s.got ≡ n) slots.now }
     requires word_long { All (λ s. length s.word ≡ n) slots.now }
-    ensures { MatchResult result (λ count. Wrote R.tells (record { given = R.given report.old; faults = R.faults report.old; sure = R.sure report.old }) (record { given = R.given report.new; faults = R.faults report.new; sure = R.sure report.new }) (lines_of (changes_from n group 0 (blocks_of slots.now) (words_of slots.now))) × (count ≡ length (changes_from n group 0 (blocks_of slots.now) (words_of slots.now)))) (λ _. WroteSome R.tells (record { given = R.given report.old; faults = R.faults report.old; sure = R.sure report.old }) (record { given = R.given report.new; faults = R.faults report.new; sure = R.sure report.new }) (lines_of (changes_from n group 0 (blocks_of slots.now) (words_of slots.now)))) }
+    ensures { MatchResult result (λ count. Wrote R.tells (R.view report.old) (R.view report.new) (lines_of (changes_from n group 0 (blocks_of slots.now) (words_of slots.now))) × (count ≡ length (changes_from n group 0 (blocks_of slots.now) (words_of slots.now)))) (λ _. WroteSome R.tells (R.view report.old) (R.view report.new) (lines_of (changes_from n group 0 (blocks_of slots.now) (words_of slots.now)))) }
 {
     let mut line = LineBuf::new();
     let mut pending = Pending::new();
@@ -56,7 +56,7 @@ fn tell_block<R: Sink>(
 ) -> Result<u64, Failed>
     requires few { length got.now ≤ 1024 }
     requires same { length codeword.now ≡ length got.now }
-    ensures { MatchResult result (λ count. WroteAllBut R.tells (record { given = R.given report.old; faults = R.faults report.old; sure = R.sure report.old }) (record { given = R.given report.new; faults = R.faults report.new; sure = R.sure report.new }) (pending.old ++ lines_of (place_changes (length got.now) group word got.now codeword.now)) pending.new × (count ≡ length (place_changes (length got.now) group word got.now codeword.now))) (λ _. WroteSome R.tells (record { given = R.given report.old; faults = R.faults report.old; sure = R.sure report.old }) (record { given = R.given report.new; faults = R.faults report.new; sure = R.sure report.new }) (pending.old ++ lines_of (place_changes (length got.now) group word got.now codeword.now))) }
+    ensures { MatchResult result (λ count. WroteAllBut R.tells (R.view report.old) (R.view report.new) (pending.old ++ lines_of (place_changes (length got.now) group word got.now codeword.now)) pending.new × (count ≡ length (place_changes (length got.now) group word got.now codeword.now))) (λ _. WroteSome R.tells (R.view report.old) (R.view report.new) (pending.old ++ lines_of (place_changes (length got.now) group word got.now codeword.now))) }
 {
     let mut count: u64 = 0;
     for p in 0..got.len() {
@@ -76,7 +76,7 @@ pub fn tell_done<R: Sink>(
     changes: u64,
     report: &mut R,
 ) -> Result<(), Failed>
-    ensures { MatchResult result (λ _. Wrote R.tells (record { given = R.given report.old; faults = R.faults report.old; sure = R.sure report.old }) (record { given = R.given report.new; faults = R.faults report.new; sure = R.sure report.new }) (done_line_of bytes groups changes)) (λ _. WroteSome R.tells (record { given = R.given report.old; faults = R.faults report.old; sure = R.sure report.old }) (record { given = R.given report.new; faults = R.faults report.new; sure = R.sure report.new }) (done_line_of bytes groups changes)) }
+    ensures { MatchResult result (λ _. Wrote R.tells (R.view report.old) (R.view report.new) (done_line_of bytes groups changes)) (λ _. WroteSome R.tells (R.view report.old) (R.view report.new) (done_line_of bytes groups changes)) }
 {
     let mut line = LineBuf::new();
     done_line(&mut line, bytes, groups, changes);

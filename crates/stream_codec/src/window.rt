@@ -93,10 +93,10 @@ impl<B: BlockBench> Window<B> {
         requires within { taken ≤ limit }
         requires limit { limit ≤ 1099511627776 }
         requires got_long { All (λ s. length s.got ≡ self.old.layout.n) self.old.slots }
-        ensures filled { (z p : List ℕ) × WindowFilled self.old.layout I.tells (record { left = I.left src.old; faults = I.faults src.old }) (record { left = I.left src.new; faults = I.faults src.new }) limit taken self.new.slots result z p }
+        ensures filled { (z p : List ℕ) × WindowFilled self.old.layout I.tells (I.view src.old) (I.view src.new) limit taken self.new.slots result z p }
         ensures kept { (F : Form) (numbers : BenchNumbers) → All (CanDecode F numbers) self.old.slots → All (CanDecode F numbers) self.new.slots }
         ensures layout { self.new.layout ≡ self.old.layout }
-        ensures counted { I.faults src.old ≤ I.faults src.new }
+        ensures counted { (I.view src.old).faults ≤ (I.view src.new).faults }
     {
         fill_groups(
             &self.layout,
@@ -189,9 +189,9 @@ fn fill_groups<B: BlockBench, I: Source>(
     requires words_long { length words.old ≡ bytes_in_group layout.now }
     requires slots_are { length slots.old ≡ count * layout.now.depth }
     requires got_long { All (λ s. length s.got ≡ layout.now.n) slots.old }
-    ensures filled { (z p : List ℕ) × WindowFilled layout.now I.tells (record { left = I.left src.old; faults = I.faults src.old }) (record { left = I.left src.new; faults = I.faults src.new }) limit taken slots.new result z p }
+    ensures filled { (z p : List ℕ) × WindowFilled layout.now I.tells (I.view src.old) (I.view src.new) limit taken slots.new result z p }
     ensures kept { (F : Form) (numbers : BenchNumbers) → All (CanDecode F numbers) slots.old → All (CanDecode F numbers) slots.new }
-    ensures counted { I.faults src.old ≤ I.faults src.new }
+    ensures counted { (I.view src.old).faults ≤ (I.view src.new).faults }
 {
     let bytes = group.len() as u64;
     let depth = layout.depth as usize;

@@ -9,7 +9,7 @@ ghost use Rattle.stored_form.specs.Reading.{message_bits};
 ghost use Rattle.coded_block.specs.Codes.{IsCode};
 ghost use Rattle.stream_codec.specs.Giving.{Wrote, WroteSome};
 ghost use Rattle.stream_codec.specs.Slots.{words_of};
-ghost use Rattle.stream_codec.specs.Writing.{bytes_left, WriterFits, EndsFile, EndsNoFile};
+ghost use Rattle.stream_codec.specs.Writing.{bytes_in, bytes_left, WriterFits, EndsFile, EndsNoFile};
 
 use crate::give::give;
 use crate::slot::Slot;
@@ -70,7 +70,10 @@ impl FileWriter {
 
     /// Writes the whole bytes of the released bits and of the group that is held, if one is, and answers how many.
     pub fn release<O: Sink>(&mut self, sink: &mut O) -> Result<u64, Failed>
-        ensures written { MatchResult result (λ count. Wrote O.tells (record { given = O.given sink.old; faults = O.faults sink.old; sure = O.sure sink.old }) (record { given = O.given sink.new; faults = O.faults sink.new; sure = O.sure sink.new }) (symbols_of 8 (self.old.released ++ bits_held self.old.held)) × (count ≡ length (symbols_of 8 (self.old.released ++ bits_held self.old.held)))) (λ _. WroteSome O.tells (record { given = O.given sink.old; faults = O.faults sink.old; sure = O.sure sink.old }) (record { given = O.given sink.new; faults = O.faults sink.new; sure = O.sure sink.new }) (symbols_of 8 (self.old.released ++ bits_held self.old.held))) }
+        ensures written { MatchResult result
+            (λ count. Wrote O.tells (O.view sink.old) (O.view sink.new) (bytes_in self.old)
+            × (count ≡ length (bytes_in self.old)))
+            (λ _. WroteSome O.tells (O.view sink.old) (O.view sink.new) (bytes_in self.old)) }
         ensures few { IfOk result (λ count. 8 * count < out_bits self.old + 8) }
         ensures left { self.new ≡ record self.old { released = bytes_left (self.old.released ++ bits_held self.old.held); held = None } }
     {
@@ -97,7 +100,7 @@ impl FileWriter {
     /// Writes the last bytes of the file and answers how many, or answers None where the held group ends no file.
     pub fn finish<O: Sink>(&mut self, sink: &mut O) -> Result<Option<u64>, Failed>
         requires { IsSome self.old.held }
-        ensures written { MatchResult result (λ found. MatchOption found (EndsNoFile self.old × Wrote O.tells (record { given = O.given sink.old; faults = O.faults sink.old; sure = O.sure sink.old }) (record { given = O.given sink.new; faults = O.faults sink.new; sure = O.sure sink.new }) []) (λ count. (front : List Bool) × EndsFile self.old front × Wrote O.tells (record { given = O.given sink.old; faults = O.faults sink.old; sure = O.sure sink.old }) (record { given = O.given sink.new; faults = O.faults sink.new; sure = O.sure sink.new }) (symbols_of 8 (self.old.released ++ front)) × (count ≡ length (symbols_of 8 (self.old.released ++ front))))) (λ _. (front : List Bool) × EndsFile self.old front × WroteSome O.tells (record { given = O.given sink.old; faults = O.faults sink.old; sure = O.sure sink.old }) (record { given = O.given sink.new; faults = O.faults sink.new; sure = O.sure sink.new }) (symbols_of 8 (self.old.released ++ front))) }
+        ensures written { MatchResult result (λ found. MatchOption found (EndsNoFile self.old × Wrote O.tells (O.view sink.old) (O.view sink.new) []) (λ count. (front : List Bool) × EndsFile self.old front × Wrote O.tells (O.view sink.old) (O.view sink.new) (symbols_of 8 (self.old.released ++ front)) × (count ≡ length (symbols_of 8 (self.old.released ++ front))))) (λ _. (front : List Bool) × EndsFile self.old front × WroteSome O.tells (O.view sink.old) (O.view sink.new) (symbols_of 8 (self.old.released ++ front))) }
         ensures few { IfOk result (λ found. IfSome found (λ count. 8 * count < out_bits self.old + 8)) }
         ensures size { self.new.size ≡ self.old.size }
         ensures width { self.new.width ≡ self.old.width }
@@ -129,7 +132,9 @@ fn take_bytes(bits: &mut BitsOut, out: &mut [u8]) -> usize
 /// Writes the released bytes, and answers how many they are.
 fn flush<O: Sink>(bits: &mut BitsOut, out: &mut [u8], sink: &mut O) -> Result<u64, Failed>
     requires { length bits.old.released / 8 ≤ length out.old }
-    ensures written { MatchResult result (λ count. Wrote O.tells (record { given = O.given sink.old; faults = O.faults sink.old; sure = O.sure sink.old }) (record { given = O.given sink.new; faults = O.faults sink.new; sure = O.sure sink.new }) (symbols_of 8 bits.old.released) × (count ≡ length (symbols_of 8 bits.old.released))) (λ _. WroteSome O.tells (record { given = O.given sink.old; faults = O.faults sink.old; sure = O.sure sink.old }) (record { given = O.given sink.new; faults = O.faults sink.new; sure = O.sure sink.new }) (symbols_of 8 bits.old.released)) }
+    ensures written { let bytes = symbols_of 8 bits.old.released in MatchResult result
+        (λ count. Wrote O.tells (O.view sink.old) (O.view sink.new) bytes × (count ≡ length bytes))
+        (λ _. WroteSome O.tells (O.view sink.old) (O.view sink.new) bytes) }
     ensures few { IfOk result (λ count. 8 * count ≤ length bits.old.released) }
     ensures left { bits.new ≡ record bits.old { released = bytes_left bits.old.released } }
 {

@@ -10,6 +10,6 @@ new-requires-clause-depth_most g c κs = let d : _ = c.requires.described.1 in o
 
 pub returns-clause-did : goal.returns-clause-did
 returns-clause-did g c = λ p d. decode-did p _ _ _ _
-    (decoded p c.args.described.now c.in-Ok.room.layout.depth _ _ _ (record { before = g.O.Sink.sure c.args.out.now; after = g.O.Sink.sure c.decode_stream.new.sink })
-    (record { before = g.R.Sink.sure c.args.report.now; after = g.R.Sink.sure c.decode_stream.new.report }) c.decode_stream.result _ d
+    (decoded p c.args.described.now c.in-Ok.room.layout.depth _ _ _ (record { before = (g.O.Sink.view c.args.out.now).sure; after = (g.O.Sink.view c.decode_stream.new.sink).sure })
+    (record { before = (g.R.Sink.view c.args.report.now).sure; after = (g.R.Sink.view c.decode_stream.new.report).sure }) c.decode_stream.result _ d
     c.in-Ok.ensures.depth c.status_of.ensures c.decode_stream.ensures.decoded c.decode_stream.ensures.complete)

@@ -10,5 +10,5 @@ new-requires-clause-most g c κs = let d : _ = c.requires.1 in omega (arith, d.d
 
 pub returns-clause-did : goal.returns-clause-did
 returns-clause-did g c = λ p d. encode-did p _ _ _
-    (encoded p c.args.described.now c.in-Ok.room.depth _ _ (record { before = g.O.Sink.sure c.args.out.now; after = g.O.Sink.sure c.encode_stream.new.sink }) c.encode_stream.result _ d
+    (encoded p c.args.described.now c.in-Ok.room.depth _ _ (record { before = (g.O.Sink.view c.args.out.now).sure; after = (g.O.Sink.view c.encode_stream.new.sink).sure }) c.encode_stream.result _ d
     c.in-Ok.ensures.depth c.status_of.ensures c.encode_stream.ensures.encoded c.encode_stream.ensures.complete)

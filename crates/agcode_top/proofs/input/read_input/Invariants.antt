@@ -3,10 +3,10 @@ use Rattle.agcode_top.proofs.input.read_input.Given as goal
 
 abbrev pub invariant-loop-piece : goal.invariant-loop-piece
 invariant-loop-piece g l = record {
-  read : IsTrue g.I.Source.tells → g.I.Source.left l.initial.input ≡ l.text.items ++ g.I.Source.left l.input;
+  read : IsTrue g.I.Source.tells → (g.I.Source.view l.initial.input).left ≡ l.text.items ++ (g.I.Source.view l.input).left;
   few : length l.text.items ≤ l.limit + 4096;
   wide : length l.piece ≡ 4096;
-  counted : g.I.Source.faults l.initial.input ≤ g.I.Source.faults l.input;
+  counted : (g.I.Source.view l.initial.input).faults ≤ (g.I.Source.view l.input).faults;
 }
 
 abbrev pub decreases-loop-piece : goal.decreases-loop-piece

@@ -29,7 +29,7 @@ pub returns-clause-reading : goal.returns-clause-reading
 returns-clause-reading g c = λ w k e q told it. run-reading _ _ _ _ _ _ _ _ c.obey-status.ensures.obeyed c.obey-status.ensures.report_counted c.tell.ensures.given w k e q told it
 
 pub returns-clause-complete : goal.returns-clause-complete
-returns-clause-complete g c = λ w k. run-complete _ _ _ _ _ _ (g.R.Sink.given c.tell.new.report) _ c.obey-status.ensures.obeyed c.obey-status.ensures.report_counted c.tell.ensures.counted w k
+returns-clause-complete g c = λ w k. run-complete _ _ _ _ _ _ (g.R.Sink.view c.tell.new.report).given _ c.obey-status.ensures.obeyed c.obey-status.ensures.report_counted c.tell.ensures.counted w k
 
 pub returns-clause-answer : goal.returns-clause-answer
 returns-clause-answer g c = λ w k e q told it. run-answer _ _ _ _ _ _ c.obey-status.ensures.obeyed w k e q told it

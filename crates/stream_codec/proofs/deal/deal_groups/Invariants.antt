@@ -3,14 +3,14 @@ use Rattle.std.proofs.Common.{ℕ, ◌≡◌, ◌+◌, ◌*◌, ◌++◌, List, 
 use Rattle.stored_form.specs.Frame.{group_bytes}
 use Rattle.coded_block.specs.Codes.{at_depth}
 use Rattle.stream_codec.specs.Dealing.{CountsFit, HoldsGroups, Dealt}
-use Rattle.stream_codec.specs.Giving.{SinkView}
+use Rattle.ag_io.specs.Views.{SinkView}
 use Rattle.stream_codec.proofs.deal.deal_groups.Given as goal
 
 abbrev pub invariant-loop-g : goal.invariant-loop-g
 invariant-loop-g g l = record {
   dealt : (z w : List ℕ) (out_first report_first : SinkView) → HoldsGroups (g.C.BlockCode.form l.code) l.window l.groups w →
-      Dealt (at_depth l.window.layout.depth (g.C.BlockCode.form l.code)) g.O.Sink.tells out_first (record { given = g.O.Sink.given l.initial.sink; faults = g.O.Sink.faults l.initial.sink; sure = g.O.Sink.sure l.initial.sink }) g.R.Sink.tells report_first (record { given = g.R.Sink.given l.initial.report; faults = g.R.Sink.faults l.initial.report; sure = g.R.Sink.sure l.initial.report }) l.initial.writer l.initial.counts z →
-      Dealt (at_depth l.window.layout.depth (g.C.BlockCode.form l.code)) g.O.Sink.tells out_first (record { given = g.O.Sink.given l.sink; faults = g.O.Sink.faults l.sink; sure = g.O.Sink.sure l.sink }) g.R.Sink.tells report_first (record { given = g.R.Sink.given l.report; faults = g.R.Sink.faults l.report; sure = g.R.Sink.sure l.report }) l.writer l.counts (z ++ take (l.g * group_bytes (at_depth l.window.layout.depth (g.C.BlockCode.form l.code))) w);
+      Dealt (at_depth l.window.layout.depth (g.C.BlockCode.form l.code)) g.O.Sink.tells out_first (g.O.Sink.view l.initial.sink) g.R.Sink.tells report_first (g.R.Sink.view l.initial.report) l.initial.writer l.initial.counts z →
+      Dealt (at_depth l.window.layout.depth (g.C.BlockCode.form l.code)) g.O.Sink.tells out_first (g.O.Sink.view l.sink) g.R.Sink.tells report_first (g.R.Sink.view l.report) l.writer l.counts (z ++ take (l.g * group_bytes (at_depth l.window.layout.depth (g.C.BlockCode.form l.code))) w);
   counts : CountsFit l.counts;
   groups : l.counts.groups ≡ l.initial.counts.groups + l.g;
   size : l.writer.size ≡ l.initial.writer.size;

@@ -83,7 +83,7 @@ windows-preserved g c =
         z ++ w,
         record {
           dealt = dealt;
-          left = λ t. k.left t ∙ ap (λ r. z ++ r) (f.left t ∙ ap (λ r. w ++ (r ++ g.I.Source.left c.fill-filling.new.src)) tail.0) ∙ sym (append_assoc z w (g.I.Source.left c.fill-filling.new.src));
+          left = λ t. k.left t ∙ ap (λ r. z ++ r) (f.left t ∙ ap (λ r. w ++ (r ++ (g.I.Source.view c.fill-filling.new.src).left)) tail.0) ∙ sym (append_assoc z w (g.I.Source.view c.fill-filling.new.src).left);
           taken_is = omega (arith, f.total, ap length tail.0, k.taken_is, length-append z w);
           within = tail.2;
           source_counted = omega (arith, k.source_counted, c.fill-filling.ensures.counted);

@@ -20,10 +20,10 @@ returns-clause-complete g c =
       form = at_depth c.room.inside.layout.depth (g.C.BlockCode.form c.args.code.now);
       limit = c.args.limit;
       source_tells = g.I.Source.tells;
-      source = record { left = g.I.Source.left c.args.src.now; faults = g.I.Source.faults c.args.src.now };
-      source_after = record { left = g.I.Source.left c.encode_parts.new.src; faults = g.I.Source.faults c.encode_parts.new.src };
+      source = g.I.Source.view c.args.src.now;
+      source_after = g.I.Source.view c.encode_parts.new.src;
       out_tells = g.O.Sink.tells;
-      out = record { given = g.O.Sink.given c.args.sink.now; faults = g.O.Sink.faults c.args.sink.now; sure = g.O.Sink.sure c.args.sink.now };
-      out_after = record { given = g.O.Sink.given c.encode_parts.new.sink; faults = g.O.Sink.faults c.encode_parts.new.sink; sure = g.O.Sink.sure c.encode_parts.new.sink };
+      out = g.O.Sink.view c.args.sink.now;
+      out_after = g.O.Sink.view c.encode_parts.new.sink;
     } in
     rw (← c.room.view_is) (encodes_all e c.encode_parts.result (encoded_as e x c.encode_parts.result sound c.encode_parts.ensures.source_counted c.encode_parts.ensures.counted c.encode_parts.ensures.sure h))

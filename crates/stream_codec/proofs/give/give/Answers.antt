@@ -8,7 +8,7 @@ returns-in_err-put g c =
     let p = err_from_is_err_and c.from_residual.result c.from_residual.ensures.1 in
     let put = c.in_err-put.ensures in
     rw p.1 (record {
-      gives = λ t. part_from_prefix _ _ _ (put.prefix refl t);
+      gives = λ t. part_from_prefix _ _ _ (put.part refl t);
       rose = put.failed refl;
       enough = λ t. put.enough refl t;
       counted = put.counted;

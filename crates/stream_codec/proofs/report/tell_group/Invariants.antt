@@ -7,6 +7,6 @@ use Rattle.stream_codec.proofs.report.tell_group.Given as goal
 
 abbrev pub invariant-loop-c : goal.invariant-loop-c
 invariant-loop-c g l = record {
-  wrote : WroteAllBut g.R.Sink.tells (record { given = g.R.Sink.given l.initial.report; faults = g.R.Sink.faults l.initial.report; sure = g.R.Sink.sure l.initial.report }) (record { given = g.R.Sink.given l.report; faults = g.R.Sink.faults l.report; sure = g.R.Sink.sure l.report }) (lines_of (changes_from l.n l.group 0 (blocks_of (take l.c l.slots)) (words_of (take l.c l.slots)))) l.pending;
+  wrote : WroteAllBut g.R.Sink.tells (g.R.Sink.view l.initial.report) (g.R.Sink.view l.report) (lines_of (changes_from l.n l.group 0 (blocks_of (take l.c l.slots)) (words_of (take l.c l.slots)))) l.pending;
   count : l.count ≡ length (changes_from l.n l.group 0 (blocks_of (take l.c l.slots)) (words_of (take l.c l.slots)));
 }

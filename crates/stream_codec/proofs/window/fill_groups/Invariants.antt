@@ -8,8 +8,8 @@ use Rattle.stream_codec.proofs.window.fill_groups.Given as goal
 
 abbrev pub invariant-loop-g : goal.invariant-loop-g
 invariant-loop-g g l = record {
-  filling : (z : List ℕ) × IsFilling l.layout g.I.Source.tells (g.I.Source.left l.initial.src) (g.I.Source.left l.src) l.limit l.taken l.slots l.g l.total z;
+  filling : (z : List ℕ) × IsFilling l.layout g.I.Source.tells (g.I.Source.view l.initial.src).left (g.I.Source.view l.src).left l.limit l.taken l.slots l.g l.total z;
   kept : (F : Form) (numbers : BenchNumbers) → All (CanDecode F numbers) l.initial.slots → All (CanDecode F numbers) l.slots;
   got_long : All (λ s. length s.got ≡ l.layout.n) l.slots;
-  counted : g.I.Source.faults l.initial.src ≤ g.I.Source.faults l.src;
+  counted : (g.I.Source.view l.initial.src).faults ≤ (g.I.Source.view l.src).faults;
 }
