@@ -65,11 +65,14 @@ fn act_on_both<X: Threads + Sync, W: Work>(
 {
     let mut there = ||
         requires { (first + length part.now ≤ 2 ^ 32) × All (W.ready work.now) part.now }
-        ensures { PartActed (W.after work.entry.now) first part.entry.now part.exit.now × All (W.ready work.entry.now) part.exit.now }
+        ensures { PartActed (W.after work.entry.now) first part.entry.now part.exit.now
+            × All (W.ready work.entry.now) part.exit.now }
     { act_in_turn(work, first, part) };
     let mut here = ||
-        requires { (0 < size) × (next + length rest.now ≤ 2 ^ 32) × All (W.ready work.now) rest.now }
-        ensures { PartActed (W.after work.entry.now) next rest.entry.now rest.exit.now × All (W.ready work.entry.now) rest.exit.now }
+        requires { (0 < size) × (next + length rest.now ≤ 2 ^ 32)
+            × All (W.ready work.now) rest.now }
+        ensures { PartActed (W.after work.entry.now) next rest.entry.now rest.exit.now
+            × All (W.ready work.entry.now) rest.exit.now }
     { act_in_parts(rt, work, next, size, rest) };
     join_mut(rt, &mut there, &mut here);
 }

@@ -4,6 +4,7 @@ ghost use Rattle.ag_pool.specs.Acts.{Acted};
 ghost use Rattle.ag_pool.specs.Rows.{AreReady, ActedFrom};
 ghost use Rattle.ag_pool.specs.Schedules.{EveryScheduleGives};
 
+use crate::Workers;
 use std::thread;
 use std::thread::Threads;
 
@@ -41,25 +42,29 @@ pub fn each_row<X: Threads + Sync, W: RowWork>(
     table: &mut [u8],
     rows: u32,
     cols: u32,
-    workers: u32,
+    workers: Workers,
 )
-    requires least { 1 ≤ workers }
-    requires most { workers ≤ 64 }
     requires some { 0 < cols }
     requires fits { length table.old ≡ rows * cols }
     requires ready { All (W.ready work.now) (rows_of rows cols table.old) }
-    ensures acted { Acted (W.after work.now) (rows_of rows cols table.old) (rows_of rows cols table.new) }
-    ensures schedules { EveryScheduleGives (W.after work.now) (rows_of rows cols table.old) (rows_of rows cols table.new) }
+    ensures acted { Acted (W.after work.now) (rows_of rows cols table.old)
+        (rows_of rows cols table.new) }
+    ensures schedules { EveryScheduleGives (W.after work.now)
+        (rows_of rows cols table.old) (rows_of rows cols table.new) }
 {
-    let band = rows.div_ceil(workers).max(1) as usize;
+    let band = rows.div_ceil(workers.count()).max(1) as usize;
     let cols = cols as usize;
     thread::for_each_chunk_mut(
         rt,
         table,
         band * cols,
         &|start: usize, part: &mut [u8]|
-            requires { (0 < cols) × (start / cols < 2 ^ 32) × (start / cols + length part.now / cols ≤ 2 ^ 32) × AreReady (W.ready work.now) cols part.now }
-            ensures { ActedFrom (W.after work.entry.now) (start / cols) cols part.entry.now part.exit.now }
+            requires { (0 < cols)
+                × (start / cols < 2 ^ 32)
+                × (start / cols + length part.now / cols ≤ 2 ^ 32)
+                × AreReady (W.ready work.now) cols part.now }
+            ensures { ActedFrom (W.after work.entry.now) (start / cols) cols part.entry.now
+                part.exit.now }
         { act_on_part(work, (start / cols) as u32, cols, part) },
     );
 }
