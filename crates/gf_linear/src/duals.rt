@@ -17,7 +17,8 @@ use std::alloc::{AllocError, Global};
 fn join_row(row: &mut [u8], left: &[u8], i: usize)
     requires wide { length row.old ≡ length left.now + length left.now }
     requires i_in { i < length left.now }
-    ensures { (p : ℕ) → p < length row.old → slice_index row.new p ≡ beside_unit (λ _. slice_index left.now) (length left.now) i p }
+    ensures { (p : ℕ) → p < length row.old →
+        slice_index row.new p ≡ beside_unit (λ _. slice_index left.now) (length left.now) i p }
 {
     let n = left.len();
     row[..n].copy_from_slice(left);
@@ -30,7 +31,8 @@ fn join_unit(entries: &[u8], n: usize, joined: &mut [u8])
     requires small { n ≤ 1024 }
     requires fits { length entries.now ≡ n * n }
     requires wide { length joined.old ≡ n * (n + n) }
-    ensures { (i p : ℕ) → i < n → p < n + n → cell joined.new (n + n) i p ≡ beside_unit (cell entries.now n) n i p }
+    ensures { (i p : ℕ) → i < n → p < n + n →
+        cell joined.new (n + n) i p ≡ beside_unit (cell entries.now n) n i p }
 {
     let cols = n + n;
     for i in 0..n {
@@ -47,7 +49,9 @@ fn read_column(joined: &[u8], i: usize, row: &mut [u8])
     requires small { length row.old ≤ 1024 }
     requires fits { length joined.now ≡ length row.old * (length row.old + length row.old) }
     requires i_in { i < length row.old }
-    ensures { (j : ℕ) → j < length row.old → slice_index row.new j ≡ cell joined.now (length row.old + length row.old) j (length row.old + i) }
+    ensures { (j : ℕ) → j < length row.old →
+        slice_index row.new j ≡ cell joined.now (length row.old + length row.old) j
+        (length row.old + i) }
 {
     let n = row.len();
     for j in 0..n {
@@ -60,7 +64,8 @@ fn read_columns(joined: &[u8], n: usize, entries: &mut [u8])
     requires small { n ≤ 1024 }
     requires fits { length joined.now ≡ n * (n + n) }
     requires room { length entries.old ≡ n * n }
-    ensures { (i j : ℕ) → i < n → j < n → cell entries.new n i j ≡ cell joined.now (n + n) j (n + i) }
+    ensures { (i j : ℕ) → i < n → j < n → cell entries.new n i j
+        ≡ cell joined.now (n + n) j (n + i) }
 {
     for i in 0..n {
         read_column(joined, i, &mut entries[i * n..i * n + n]);
@@ -80,8 +85,10 @@ fn find_duals<F: Field>(
     requires wide { length joined.old ≡ n * (n + n) }
     requires room { length duals.old ≡ n * n }
     requires symbols { All (λ a. a < 2 ^ F.bits_of f.now) entries.now }
-    ensures dependent { OnFalse result (AreIndependent (2 ^ F.bits_of f.now) (gf_mul (F.bits_of f.now) (F.modulus_of f.now)) n (cell entries.now n) n → ⊥) }
-    ensures dual { OnTrue result (IsDual (gf_mul (F.bits_of f.now) (F.modulus_of f.now)) n (cell entries.now n) (cell duals.new n)) }
+    ensures dependent { OnFalse result (AreIndependent (2 ^ F.bits_of f.now)
+        (gf_mul (F.bits_of f.now) (F.modulus_of f.now)) n (cell entries.now n) n → ⊥) }
+    ensures dual { OnTrue result (IsDual (gf_mul (F.bits_of f.now) (F.modulus_of f.now)) n
+        (cell entries.now n) (cell duals.new n)) }
     ensures symbols { OnTrue result (All (λ a. a < 2 ^ F.bits_of f.now) duals.new) }
 {
     join_unit(entries, n, joined);
@@ -97,7 +104,9 @@ fn find_duals<F: Field>(
 pub fn dual_of<F: Field>(alloc: Global, f: &F, m: &Matrix) -> Result<Option<Matrix>, AllocError>
     requires square { length m.now.rows ≡ m.now.cols }
     requires symbols { IsOver (F.bits_of f.now) m.now }
-    ensures { IfOk result (λ o. MatchOption o (AreDependent (F.bits_of f.now) (F.modulus_of f.now) m.now) (IsDualOf (F.bits_of f.now) (F.modulus_of f.now) m.now)) }
+    ensures { IfOk result (λ o. MatchOption o
+        (AreDependent (F.bits_of f.now) (F.modulus_of f.now) m.now)
+        (IsDualOf (F.bits_of f.now) (F.modulus_of f.now) m.now)) }
 {
     let n = m.rows as usize;
     let mut joined = vec![in alloc; 0; n * (n + n)]?;

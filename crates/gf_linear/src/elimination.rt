@@ -47,7 +47,9 @@ fn add_row<F: Field>(f: &F, m: &mut [u8], rows: usize, cols: usize, k: usize, p:
     requires above { k < p }
     requires within { p < rows }
     requires symbols { All (λ a. a < 2 ^ F.bits_of f.now) m.old }
-    ensures row { (j : ℕ) → j < cols → cell m.new cols k j ≡ bit_xor (cell m.old cols k j) (gf_mul (F.bits_of f.now) (F.modulus_of f.now) 1 (cell m.old cols p j)) }
+    ensures row { (j : ℕ) → j < cols → cell m.new cols k j
+        ≡ bit_xor (cell m.old cols k j)
+        (gf_mul (F.bits_of f.now) (F.modulus_of f.now) 1 (cell m.old cols p j)) }
     ensures kept { AreKept rows cols (λ q. q ≢ k) m.old m.new }
     ensures symbols { All (λ a. a < 2 ^ F.bits_of f.now) m.new }
 {
@@ -70,7 +72,8 @@ fn raise<F: Field>(f: &F, m: &mut [u8], rows: usize, cols: usize, k: usize, j: u
     ensures pivot { cell m.new cols k j ≢ 0 }
     ensures zeros { (i q : ℕ) → k ≤ i → i < rows → q < j → cell m.new cols i q ≡ 0 }
     ensures kept { AreKept rows cols (λ q. q < k) m.old m.new }
-    ensures span { SameSpan (gf_mul (F.bits_of f.now) (F.modulus_of f.now)) cols (cell m.old cols) rows (cell m.new cols) rows }
+    ensures span { SameSpan (gf_mul (F.bits_of f.now) (F.modulus_of f.now)) cols (cell m.old cols)
+        rows (cell m.new cols) rows }
     ensures symbols { All (λ a. a < 2 ^ F.bits_of f.now) m.new }
 {
     if p != k {
@@ -82,7 +85,9 @@ fn raise<F: Field>(f: &F, m: &mut [u8], rows: usize, cols: usize, k: usize, j: u
 fn scale_row<F: Field>(f: &F, row: &mut [u8], x: u8)
     requires factor { x < 2 ^ F.bits_of f.now }
     requires symbols { All (λ a. a < 2 ^ F.bits_of f.now) row.old }
-    ensures value { (p : ℕ) → p < length row.old → slice_index row.new p ≡ gf_mul (F.bits_of f.now) (F.modulus_of f.now) x (slice_index row.old p) }
+    ensures value { (p : ℕ) → p < length row.old →
+        slice_index row.new p ≡ gf_mul (F.bits_of f.now) (F.modulus_of f.now) x
+        (slice_index row.old p) }
     ensures symbols { All (λ a. a < 2 ^ F.bits_of f.now) row.new }
 {
     for p in 0..row.len() {
@@ -101,7 +106,8 @@ fn make_one<F: Field>(f: &F, m: &mut [u8], rows: usize, cols: usize, k: usize, j
     ensures one { cell m.new cols k j ≡ 1 }
     ensures zeros { (i q : ℕ) → k ≤ i → i < rows → q < j → cell m.new cols i q ≡ 0 }
     ensures kept { AreKept rows cols (λ q. q ≢ k) m.old m.new }
-    ensures span { SameSpan (gf_mul (F.bits_of f.now) (F.modulus_of f.now)) cols (cell m.old cols) rows (cell m.new cols) rows }
+    ensures span { SameSpan (gf_mul (F.bits_of f.now) (F.modulus_of f.now)) cols (cell m.old cols)
+        rows (cell m.new cols) rows }
     ensures symbols { All (λ a. a < 2 ^ F.bits_of f.now) m.new }
 {
     let inverse = f.inv(m[k * cols + j]);
@@ -122,7 +128,8 @@ fn reduce_column<F: Field>(
     requires symbols { All (λ a. a < 2 ^ F.bits_of f.now) m.old }
     requires reduced { IsReduced j (cell m.old cols) rows k }
     ensures reduced { IsReduced (j + 1) (cell m.new cols) rows result }
-    ensures span { SameSpan (gf_mul (F.bits_of f.now) (F.modulus_of f.now)) cols (cell m.old cols) rows (cell m.new cols) rows }
+    ensures span { SameSpan (gf_mul (F.bits_of f.now) (F.modulus_of f.now)) cols (cell m.old cols)
+        rows (cell m.new cols) rows }
     ensures symbols { All (λ a. a < 2 ^ F.bits_of f.now) m.new }
 {
     let p = find_pivot(m, rows, cols, k, j);
@@ -141,7 +148,8 @@ pub fn reduce<F: Field>(f: &F, m: &mut [u8], rows: usize, cols: usize, width: us
     requires width_in { width ≤ cols }
     requires symbols { All (λ a. a < 2 ^ F.bits_of f.now) m.old }
     ensures reduced { IsReduced width (cell m.new cols) rows result }
-    ensures span { SameSpan (gf_mul (F.bits_of f.now) (F.modulus_of f.now)) cols (cell m.old cols) rows (cell m.new cols) rows }
+    ensures span { SameSpan (gf_mul (F.bits_of f.now) (F.modulus_of f.now)) cols (cell m.old cols)
+        rows (cell m.new cols) rows }
     ensures symbols { All (λ a. a < 2 ^ F.bits_of f.now) m.new }
 {
     let mut k: usize = 0;

@@ -17,7 +17,8 @@ pub fn dot<F: Field>(f: &F, x: &[u8], y: &[u8]) -> u8
     requires same { length x.now ≡ length y.now }
     requires left { All (λ a. a < 2 ^ F.bits_of f.now) x.now }
     requires right { All (λ a. a < 2 ^ F.bits_of f.now) y.now }
-    ensures value { result ≡ dot_of (gf_mul (F.bits_of f.now) (F.modulus_of f.now)) (length x.now) (slice_index x.now) (slice_index y.now) }
+    ensures value { result ≡ dot_of (gf_mul (F.bits_of f.now) (F.modulus_of f.now)) (length x.now)
+        (slice_index x.now) (slice_index y.now) }
     ensures symbol { result < 2 ^ F.bits_of f.now }
 {
     let mut sum: u8 = 0;
@@ -35,7 +36,9 @@ pub fn add_scaled<F: Field>(f: &F, dst: &mut [u8], c: u8, src: &[u8])
     requires factor { c < 2 ^ F.bits_of f.now }
     requires target { All (λ a. a < 2 ^ F.bits_of f.now) dst.old }
     requires source { All (λ a. a < 2 ^ F.bits_of f.now) src.now }
-    ensures value { (p : ℕ) → p < length dst.old → slice_index dst.new p ≡ bit_xor (slice_index dst.old p) (gf_mul (F.bits_of f.now) (F.modulus_of f.now) c (slice_index src.now p)) }
+    ensures value { (p : ℕ) → p < length dst.old →
+        slice_index dst.new p ≡ bit_xor (slice_index dst.old p)
+        (gf_mul (F.bits_of f.now) (F.modulus_of f.now) c (slice_index src.now p)) }
     ensures symbols { All (λ a. a < 2 ^ F.bits_of f.now) dst.new }
 {
     if c == 0 {
@@ -58,7 +61,8 @@ fn chosen(symbol: u8, bit: u32, term: u8) -> u8
 fn sum_where(x: &[u8], bit: u32, y: &[u8]) -> u8
     requires same { length x.now ≡ length y.now }
     requires bit { bit < 8 }
-    ensures { result ≡ xor_sum (length x.now) (λ p. slice_index x.now p / 2 ^ bit % 2 * slice_index y.now p) }
+    ensures { result ≡ xor_sum (length x.now)
+        (λ p. slice_index x.now p / 2 ^ bit % 2 * slice_index y.now p) }
 {
     let mut sum: u8 = 0;
     for p in 0..x.len() {
@@ -71,7 +75,8 @@ fn sum_where(x: &[u8], bit: u32, y: &[u8]) -> u8
 fn low_multiples<F: Field>(f: &F, c: u8) -> [u8; 16]
     requires { c < 2 ^ F.bits_of f.now }
     ensures length { length result ≡ 16 }
-    ensures products { (i : ℕ) → i < 16 → i < 2 ^ F.bits_of f.now → slice_index result i ≡ gf_mul (F.bits_of f.now) (F.modulus_of f.now) c i }
+    ensures products { (i : ℕ) → i < 16 → i < 2 ^ F.bits_of f.now →
+        slice_index result i ≡ gf_mul (F.bits_of f.now) (F.modulus_of f.now) c i }
 {
     let mut table = [0; 16];
     let count = (1usize << f.bits()).min(16);
@@ -85,7 +90,8 @@ fn low_multiples<F: Field>(f: &F, c: u8) -> [u8; 16]
 fn high_multiples<F: Field>(f: &F, c: u8) -> [u8; 16]
     requires { c < 2 ^ F.bits_of f.now }
     ensures length { length result ≡ 16 }
-    ensures products { (i : ℕ) → i * 16 < 2 ^ F.bits_of f.now → slice_index result i ≡ gf_mul (F.bits_of f.now) (F.modulus_of f.now) c (i * 16) }
+    ensures products { (i : ℕ) → i * 16 < 2 ^ F.bits_of f.now →
+        slice_index result i ≡ gf_mul (F.bits_of f.now) (F.modulus_of f.now) c (i * 16) }
 {
     let mut table = [0; 16];
     let size = 1usize << f.bits();
@@ -101,7 +107,9 @@ fn add_multiples(dst: &mut [u8], low: &[u8; 16], high: &[u8; 16], src: &[u8])
     requires low { length low.now ≡ 16 }
     requires high { length high.now ≡ 16 }
     ensures length { length dst.new ≡ length dst.old }
-    ensures value { (p : ℕ) → p < length dst.old → slice_index dst.new p ≡ bit_xor (slice_index dst.old p) (looked_up low.now high.now (slice_index src.now p)) }
+    ensures value { (p : ℕ) → p < length dst.old →
+        slice_index dst.new p ≡ bit_xor (slice_index dst.old p)
+        (looked_up low.now high.now (slice_index src.now p)) }
 {
     let whole = dst.len() / 16 * 16;
     let (front, rest) = dst.split_at_mut(whole);
@@ -121,7 +129,9 @@ fn add_singly(dst: &mut [u8], low: &[u8; 16], high: &[u8; 16], src: &[u8])
     requires low { length low.now ≡ 16 }
     requires high { length high.now ≡ 16 }
     ensures length { length dst.new ≡ length dst.old }
-    ensures value { (p : ℕ) → p < length dst.old → slice_index dst.new p ≡ bit_xor (slice_index dst.old p) (looked_up low.now high.now (slice_index src.now p)) }
+    ensures value { (p : ℕ) → p < length dst.old →
+        slice_index dst.new p ≡ bit_xor (slice_index dst.old p)
+        (looked_up low.now high.now (slice_index src.now p)) }
 {
     for p in 0..dst.len() {
         let symbol = src[p];
@@ -134,7 +144,9 @@ fn add_sixteens(dst: &mut [u8], low: u8x16, high: u8x16, src: &[u8])
     requires same { length dst.old ≡ length src.now }
     requires whole { length dst.old % 16 ≡ 0 }
     ensures length { length dst.new ≡ length dst.old }
-    ensures value { (p : ℕ) → p < length dst.old → slice_index dst.new p ≡ bit_xor (slice_index dst.old p) (looked_up low high (slice_index src.now p)) }
+    ensures value { (p : ℕ) → p < length dst.old →
+        slice_index dst.new p ≡ bit_xor (slice_index dst.old p)
+        (looked_up low high (slice_index src.now p)) }
 {
     for q in 0..dst.len() / 16 {
         add_sixteen(dst, q * 16, low, high, src);
@@ -146,7 +158,9 @@ fn add_sixteen(dst: &mut [u8], at: usize, low: u8x16, high: u8x16, src: &[u8])
     requires same { length dst.old ≡ length src.now }
     requires room { at + 16 ≤ length dst.old }
     ensures length { length dst.new ≡ length dst.old }
-    ensures here { (i : ℕ) → i < 16 → slice_index dst.new (at + i) ≡ bit_xor (slice_index dst.old (at + i)) (looked_up low high (slice_index src.now (at + i))) }
+    ensures here { (i : ℕ) → i < 16 → slice_index dst.new (at + i)
+        ≡ bit_xor (slice_index dst.old (at + i))
+        (looked_up low high (slice_index src.now (at + i))) }
     ensures before { (p : ℕ) → p < at → slice_index dst.new p ≡ slice_index dst.old p }
     ensures after { (p : ℕ) → at + 16 ≤ p → slice_index dst.new p ≡ slice_index dst.old p }
 {
@@ -158,7 +172,8 @@ fn add_sixteen(dst: &mut [u8], at: usize, low: u8x16, high: u8x16, src: &[u8])
 // What the tables give for 16 bytes.
 fn look_up(low: u8x16, high: u8x16, symbols: u8x16) -> u8x16
     ensures width { length result ≡ 16 }
-    ensures value { (i : ℕ) → i < 16 → slice_index result i ≡ looked_up low high (slice_index symbols i) }
+    ensures value { (i : ℕ) → i < 16 → slice_index result i
+        ≡ looked_up low high (slice_index symbols i) }
 {
     let lows = low.swizzle_dyn(symbols & u8x16::splat(15));
     let highs = high.swizzle_dyn(symbols >> u8x16::splat(4));

@@ -3,6 +3,7 @@ ghost use Rattle.gf_theory.specs.Field.{gf_mul};
 ghost use Rattle.gf_linear.specs.Matrix.{entry, row as row_of, IsMatrix, IsOver, zero_matrix, with_row, with_entry};
 
 use crate::columns::clear_in_threads;
+use ag_pool::Workers;
 use gf_field::Field;
 use std::alloc::{AllocError, Global};
 use std::marker::Model;
@@ -24,7 +25,8 @@ impl Model for Matrix {
 
     ghost view = { λ a. matrix_of a.rows a.cols a.entries.items };
 
-    ghost invariant = { λ a. (a.rows ≤ 1024) × (a.cols ≤ 2048) × (length a.entries.items ≡ a.rows * a.cols) };
+    ghost invariant = { λ a. (a.rows ≤ 1024) × (a.cols ≤ 2048)
+        × (length a.entries.items ≡ a.rows * a.cols) };
 }
 
 impl Matrix {
@@ -87,23 +89,25 @@ impl Matrix {
     }
 
     /// Each row other than row `pivot` becomes itself plus its entry at `col` times row `pivot`, so that it is 0 at `col`;
-    /// row `pivot` stays. It works in at most `workers` threads and takes no memory.
+    /// row `pivot` stays. It works in at most so many threads as there are workers, and takes no memory.
     pub fn clear_column<X: Threads + Sync, F: Field + Sync>(
         &mut self,
         rt: &X,
         f: &F,
         pivot: u32,
         col: u32,
-        workers: u32,
+        workers: Workers,
     )
         requires pivot_in { pivot < length self.old.rows }
         requires col_in { col < self.old.cols }
         requires one { entry self.old pivot col ≡ 1 }
         requires symbols { IsOver (F.bits_of f.now) self.old }
-        requires least { 1 ≤ workers }
-        requires most { workers ≤ 64 }
-        ensures others { (q p : ℕ) → q < length self.old.rows → q ≢ pivot → p < self.old.cols → entry self.new q p ≡ bit_xor (entry self.old q p) (gf_mul (F.bits_of f.now) (F.modulus_of f.now) (entry self.old q col) (entry self.old pivot p)) }
-        ensures cleared { (q : ℕ) → q < length self.old.rows → q ≢ pivot → entry self.new q col ≡ 0 }
+        ensures others { (q p : ℕ) → q < length self.old.rows → q ≢ pivot → p < self.old.cols →
+            entry self.new q p ≡ bit_xor (entry self.old q p)
+            (gf_mul (F.bits_of f.now) (F.modulus_of f.now) (entry self.old q col)
+            (entry self.old pivot p)) }
+        ensures cleared { (q : ℕ) → q < length self.old.rows → q ≢ pivot →
+            entry self.new q col ≡ 0 }
         ensures kept { row_of self.new pivot ≡ row_of self.old pivot }
         ensures symbols { IsOver (F.bits_of f.now) self.new }
         ensures same_rows { length self.new.rows ≡ length self.old.rows }

@@ -33,7 +33,8 @@ pub fn part_rank<F: Field>(f: &F, m: &Matrix, rows: u32, cols: u32, room: &mut M
     requires room_rows { length m.now.rows ≤ length room.old.rows }
     requires room_cols { m.now.cols ≤ room.old.cols }
     requires symbols { IsOver (F.bits_of f.now) m.now }
-    ensures value { result ≡ rank_of (2 ^ F.bits_of f.now) (gf_mul (F.bits_of f.now) (F.modulus_of f.now)) cols (entry m.now) rows }
+    ensures value { result ≡ rank_of (2 ^ F.bits_of f.now)
+        (gf_mul (F.bits_of f.now) (F.modulus_of f.now)) cols (entry m.now) rows }
     ensures same_rows { length room.new.rows ≡ length room.old.rows }
     ensures same_cols { room.new.cols ≡ room.old.cols }
 {
@@ -51,7 +52,9 @@ fn residue<F: Field>(f: &F, part: &[u8], rows: usize, cols: usize, count: usize,
     requires part_symbols { All (λ a. a < 2 ^ F.bits_of f.now) part.now }
     requires row_symbols { All (λ a. a < 2 ^ F.bits_of f.now) row.now }
     requires reduced { IsReduced cols (cell part.now cols) rows count }
-    ensures value { (h : IsReduced cols (cell part.now cols) rows count) → result ≡ residue_of (gf_mul (F.bits_of f.now) (F.modulus_of f.now)) count h.pivots (slice_index row.now) (cell part.now cols) (cols - 1) }
+    ensures value { (h : IsReduced cols (cell part.now cols) rows count) →
+        result ≡ residue_of (gf_mul (F.bits_of f.now) (F.modulus_of f.now)) count h.pivots
+        (slice_index row.now) (cell part.now cols) (cols - 1) }
     ensures symbol { result < 2 ^ F.bits_of f.now }
 {
     let mut sum: u8 = 0;
@@ -71,9 +74,13 @@ pub fn part_residue<F: Field>(f: &F, m: &Matrix, i: u32, j: u32, room: &mut Matr
     requires room_rows { length m.now.rows ≤ length room.old.rows }
     requires room_cols { m.now.cols ≤ room.old.cols }
     requires symbols { IsOver (F.bits_of f.now) m.now }
-    requires candidate { IsCandidate (2 ^ F.bits_of f.now) (gf_mul (F.bits_of f.now) (F.modulus_of f.now)) (entry m.now) i j }
-    ensures keeps { KeepsRank (2 ^ F.bits_of f.now) (gf_mul (F.bits_of f.now) (F.modulus_of f.now)) (entry m.now) i j result }
-    ensures only { (x : ℕ) → x < 2 ^ F.bits_of f.now → KeepsRank (2 ^ F.bits_of f.now) (gf_mul (F.bits_of f.now) (F.modulus_of f.now)) (entry m.now) i j x → x ≡ result }
+    requires candidate { IsCandidate (2 ^ F.bits_of f.now)
+        (gf_mul (F.bits_of f.now) (F.modulus_of f.now)) (entry m.now) i j }
+    ensures keeps { KeepsRank (2 ^ F.bits_of f.now) (gf_mul (F.bits_of f.now) (F.modulus_of f.now))
+        (entry m.now) i j result }
+    ensures only { (x : ℕ) → x < 2 ^ F.bits_of f.now →
+        KeepsRank (2 ^ F.bits_of f.now) (gf_mul (F.bits_of f.now) (F.modulus_of f.now))
+        (entry m.now) i j x → x ≡ result }
     ensures symbol { result < 2 ^ F.bits_of f.now }
     ensures same_rows { length room.new.rows ≡ length room.old.rows }
     ensures same_cols { room.new.cols ≡ room.old.cols }

@@ -31,8 +31,12 @@ pub fn echelon<F: Field>(alloc: Global, f: &F, m: &Matrix) -> Result<Matrix, All
 /// The greatest number of independent rows.
 pub fn rank<F: Field>(alloc: Global, f: &F, m: &Matrix) -> Result<u32, AllocError>
     requires symbols { IsOver (F.bits_of f.now) m.now }
-    ensures value { IfOk result (λ k. k ≡ rank_of (2 ^ F.bits_of f.now) (gf_mul (F.bits_of f.now) (F.modulus_of f.now)) m.now.cols (entry m.now) (length m.now.rows)) }
-    ensures greatest { IfOk result (IsGreatestNumber (2 ^ F.bits_of f.now) (gf_mul (F.bits_of f.now) (F.modulus_of f.now)) m.now.cols (entry m.now) (length m.now.rows)) }
+    ensures value { IfOk result (λ k. k ≡ rank_of (2 ^ F.bits_of f.now)
+        (gf_mul (F.bits_of f.now) (F.modulus_of f.now)) m.now.cols (entry m.now)
+        (length m.now.rows)) }
+    ensures greatest { IfOk result (IsGreatestNumber (2 ^ F.bits_of f.now)
+        (gf_mul (F.bits_of f.now) (F.modulus_of f.now)) m.now.cols (entry m.now)
+        (length m.now.rows)) }
 {
     let mut entries = Vec::from_slice(alloc, &m.entries)?;
     let width = m.cols as usize;

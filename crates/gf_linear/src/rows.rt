@@ -15,7 +15,10 @@ pub fn clear_row<F: Field>(f: &F, row: &mut [u8], col: usize, from: usize, pivot
     requires zeros { (p : ℕ) → p < from → slice_index pivot.now p ≡ 0 }
     requires row_symbols { All (λ a. a < 2 ^ F.bits_of f.now) row.old }
     requires pivot_symbols { All (λ a. a < 2 ^ F.bits_of f.now) pivot.now }
-    ensures value { (p : ℕ) → p < length row.old → slice_index row.new p ≡ bit_xor (slice_index row.old p) (gf_mul (F.bits_of f.now) (F.modulus_of f.now) (slice_index row.old col) (slice_index pivot.now p)) }
+    ensures value { (p : ℕ) → p < length row.old →
+        slice_index row.new p ≡ bit_xor (slice_index row.old p)
+        (gf_mul (F.bits_of f.now) (F.modulus_of f.now) (slice_index row.old col)
+        (slice_index pivot.now p)) }
     ensures symbols { All (λ a. a < 2 ^ F.bits_of f.now) row.new }
 {
     let factor = row[col];
@@ -37,7 +40,11 @@ pub fn clear_rows<F: Field>(
     requires zeros { (p : ℕ) → p < from → slice_index pivot.now p ≡ 0 }
     requires block_symbols { All (λ a. a < 2 ^ F.bits_of f.now) block.old }
     requires pivot_symbols { All (λ a. a < 2 ^ F.bits_of f.now) pivot.now }
-    ensures value { (q p : ℕ) → q < rows → p < length pivot.now → cell block.new (length pivot.now) q p ≡ bit_xor (cell block.old (length pivot.now) q p) (gf_mul (F.bits_of f.now) (F.modulus_of f.now) (cell block.old (length pivot.now) q col) (slice_index pivot.now p)) }
+    ensures value { (q p : ℕ) → q < rows → p < length pivot.now →
+        cell block.new (length pivot.now) q p
+        ≡ bit_xor (cell block.old (length pivot.now) q p)
+        (gf_mul (F.bits_of f.now) (F.modulus_of f.now) (cell block.old (length pivot.now) q col)
+        (slice_index pivot.now p)) }
     ensures symbols { All (λ a. a < 2 ^ F.bits_of f.now) block.new }
 {
     let cols = pivot.len();
@@ -62,7 +69,10 @@ pub fn clear_others<F: Field>(
     requires from_in { from ≤ cols }
     requires zeros { (p : ℕ) → p < from → cell m.old cols k p ≡ 0 }
     requires symbols { All (λ a. a < 2 ^ F.bits_of f.now) m.old }
-    ensures value { (q p : ℕ) → q < rows → q ≢ k → p < cols → cell m.new cols q p ≡ bit_xor (cell m.old cols q p) (gf_mul (F.bits_of f.now) (F.modulus_of f.now) (cell m.old cols q col) (cell m.old cols k p)) }
+    ensures value { (q p : ℕ) → q < rows → q ≢ k → p < cols →
+        cell m.new cols q p ≡ bit_xor (cell m.old cols q p)
+        (gf_mul (F.bits_of f.now) (F.modulus_of f.now) (cell m.old cols q col)
+        (cell m.old cols k p)) }
     ensures kept { AreKept rows cols (λ q. q ≡ k) m.old m.new }
     ensures symbols { All (λ a. a < 2 ^ F.bits_of f.now) m.new }
 {

@@ -16,7 +16,9 @@ use std::alloc::{AllocError, Global};
 // The row becomes the left side of an equation, followed by its right side.
 fn join_side(row: &mut [u8], left: &[u8], right: u8)
     requires wide { length row.old ≡ length left.now + 1 }
-    ensures { (p : ℕ) → p < length row.old → slice_index row.new p ≡ beside_column (λ _. slice_index left.now) (length left.now) (λ _. right) 0 p }
+    ensures { (p : ℕ) → p < length row.old →
+        slice_index row.new p ≡ beside_column (λ _. slice_index left.now) (length left.now)
+        (λ _. right) 0 p }
 {
     let n = left.len();
     row[..n].copy_from_slice(left);
@@ -28,7 +30,9 @@ fn join_sides(entries: &[u8], rhs: &[u8], cols: usize, joined: &mut [u8])
     requires small { cols ≤ 2048 }
     requires fits { length entries.now ≡ length rhs.now * cols }
     requires wide { length joined.old ≡ length rhs.now * (cols + 1) }
-    ensures { (i p : ℕ) → i < length rhs.now → p < cols + 1 → cell joined.new (cols + 1) i p ≡ beside_column (cell entries.now cols) cols (slice_index rhs.now) i p }
+    ensures { (i p : ℕ) → i < length rhs.now → p < cols + 1 →
+        cell joined.new (cols + 1) i p
+        ≡ beside_column (cell entries.now cols) cols (slice_index rhs.now) i p }
 {
     let wide = cols + 1;
     for i in 0..rhs.len() {
@@ -47,10 +51,18 @@ fn read_solution(joined: &[u8], rows: usize, count: usize, x: &mut [u8]) -> bool
     requires fits { length joined.now ≡ rows * (length x.old + 1) }
     requires few { count ≤ rows }
     requires zero { (j : ℕ) → slice_index x.old j ≡ 0 }
-    ensures none { OnFalse result ((h : IsReduced (length x.old + 1) (cell joined.now (length x.old + 1)) rows count) → (t : ℕ) × (t < count) × (h.pivots t ≡ length x.old)) }
-    ensures low { OnTrue result ((h : IsReduced (length x.old + 1) (cell joined.now (length x.old + 1)) rows count) → (t : ℕ) → t < count → h.pivots t < length x.old) }
-    ensures at_pivots { OnTrue result ((h : IsReduced (length x.old + 1) (cell joined.now (length x.old + 1)) rows count) → (t : ℕ) → t < count → slice_index x.new (h.pivots t) ≡ cell joined.now (length x.old + 1) t (length x.old)) }
-    ensures elsewhere { OnTrue result ((h : IsReduced (length x.old + 1) (cell joined.now (length x.old + 1)) rows count) → (j : ℕ) → ((t : ℕ) → t < count → h.pivots t ≢ j) → slice_index x.new j ≡ 0) }
+    ensures none { OnFalse result ((h : IsReduced (length x.old + 1)
+        (cell joined.now (length x.old + 1)) rows count) → (t : ℕ) × (t < count)
+        × (h.pivots t ≡ length x.old)) }
+    ensures low { OnTrue result ((h : IsReduced (length x.old + 1)
+        (cell joined.now (length x.old + 1)) rows count) → (t : ℕ) → t < count →
+        h.pivots t < length x.old) }
+    ensures at_pivots { OnTrue result ((h : IsReduced (length x.old + 1)
+        (cell joined.now (length x.old + 1)) rows count) → (t : ℕ) → t < count →
+        slice_index x.new (h.pivots t) ≡ cell joined.now (length x.old + 1) t (length x.old)) }
+    ensures elsewhere { OnTrue result ((h : IsReduced (length x.old + 1)
+        (cell joined.now (length x.old + 1)) rows count) → (j : ℕ) →
+        ((t : ℕ) → t < count → h.pivots t ≢ j) → slice_index x.new j ≡ 0) }
 {
     let cols = x.len();
     let wide = cols + 1;
@@ -79,9 +91,16 @@ fn find_solution<F: Field>(
     requires zero { (j : ℕ) → slice_index x.old j ≡ 0 }
     requires entry_symbols { All (λ a. a < 2 ^ F.bits_of f.now) entries.now }
     requires rhs_symbols { All (λ a. a < 2 ^ F.bits_of f.now) rhs.now }
-    ensures none { OnFalse result ((y : ℕ → ℕ) → ((i : ℕ) → i < length rhs.now → dot (gf_mul (F.bits_of f.now) (F.modulus_of f.now)) (length x.old) (cell entries.now (length x.old) i) y ≡ slice_index rhs.now i) → ⊥) }
-    ensures solves { OnTrue result ((i : ℕ) → i < length rhs.now → dot (gf_mul (F.bits_of f.now) (F.modulus_of f.now)) (length x.old) (cell entries.now (length x.old) i) (slice_index x.new) ≡ slice_index rhs.now i) }
-    ensures free { OnTrue result ((j : ℕ) → j < length x.old → IsFree (2 ^ F.bits_of f.now) (gf_mul (F.bits_of f.now) (F.modulus_of f.now)) (cell entries.now (length x.old)) (length rhs.now) j → slice_index x.new j ≡ 0) }
+    ensures none { OnFalse result ((y : ℕ → ℕ) →
+        ((i : ℕ) → i < length rhs.now →
+        dot (gf_mul (F.bits_of f.now) (F.modulus_of f.now)) (length x.old)
+        (cell entries.now (length x.old) i) y ≡ slice_index rhs.now i) → ⊥) }
+    ensures solves { OnTrue result ((i : ℕ) → i < length rhs.now →
+        dot (gf_mul (F.bits_of f.now) (F.modulus_of f.now)) (length x.old)
+        (cell entries.now (length x.old) i) (slice_index x.new) ≡ slice_index rhs.now i) }
+    ensures free { OnTrue result ((j : ℕ) → j < length x.old →
+        IsFree (2 ^ F.bits_of f.now) (gf_mul (F.bits_of f.now) (F.modulus_of f.now))
+        (cell entries.now (length x.old)) (length rhs.now) j → slice_index x.new j ≡ 0) }
     ensures symbols { OnTrue result (All (λ a. a < 2 ^ F.bits_of f.now) x.new) }
 {
     let cols = x.len();
@@ -101,8 +120,11 @@ pub fn solve<F: Field>(
     requires sides { length rhs.now ≡ length m.now.rows }
     requires entry_symbols { IsOver (F.bits_of f.now) m.now }
     requires rhs_symbols { All (λ a. a < 2 ^ F.bits_of f.now) rhs.now }
-    ensures solved { IfOk result (λ o. MatchOption o ((x : List ℕ) → IsSolution (F.bits_of f.now) (F.modulus_of f.now) m.now rhs.now x → ⊥) (λ x. IsSolution (F.bits_of f.now) (F.modulus_of f.now) m.now rhs.now x.items)) }
-    ensures free { IfOk result (λ o. MatchOption o (Unit {0}) (λ x. HasFreeZeros (F.bits_of f.now) (F.modulus_of f.now) m.now x.items)) }
+    ensures solved { IfOk result (λ o. MatchOption o
+        ((x : List ℕ) → IsSolution (F.bits_of f.now) (F.modulus_of f.now) m.now rhs.now x → ⊥)
+        (λ x. IsSolution (F.bits_of f.now) (F.modulus_of f.now) m.now rhs.now x.items)) }
+    ensures free { IfOk result (λ o. MatchOption o (Unit {0})
+        (λ x. HasFreeZeros (F.bits_of f.now) (F.modulus_of f.now) m.now x.items)) }
 {
     let cols = m.cols as usize;
     let mut joined = vec![in alloc; 0; rhs.len() * (cols + 1)]?;

@@ -2,6 +2,7 @@ ghost use Rattle.std.specs.Prelude.{◌≡◌, ◌*◌, ◌<◌, ◌≤◌, leng
 ghost use Rattle.gf_linear.specs.Matrix.{IsOver};
 
 use super::{Matrix, add_scaled, dot, dual_of, echelon, part_rank, part_residue, rank, solve};
+use ag_pool::Workers;
 use gf_field::PolyField;
 use std::alloc::{AllocError, Global};
 use std::process::Abort;
@@ -157,6 +158,7 @@ fn ranks_of_parts(rt: HostRuntime) -> Result<(), Fail> {
 fn columns_are_cleared(rt: HostRuntime) -> Result<(), Fail> {
     let f = field_of_four(&rt);
     for workers in [1, 2, 8] {
+        let workers = Workers::new(workers).ok_or("they are 1 to 64")?;
         let mut m = matrix(&rt, rt.alloc(), &[[1, 2], [3, 1], [0, 1]])?;
         assert_eq!(rt; m.row(0)[0], 1);
         m.clear_column(&rt, &f, 0, 0, workers);
