@@ -1,9 +1,9 @@
 -- BenchNumbers   what a bench keeps of the code that it was made for
--- at_depth       a code in groups of so many codewords
--- IsCode         what coded files use of a code: it is sound in groups of every depth, and its numbers are in range
+-- IsCode         what coded files use of a code: it is sound in groups of every depth and in either layout, and its
+--                numbers are in range
 -- verdict_of     what decoding a block finds: the number of positions at which it differs from its near, or that it has none
 use Rattle.std.specs.Prelude.{ℕ, ◌<◌, ◌≤◌, Bool, List, Option, Some, None}
-use Rattle.stored_form.specs.Form.{Form, IsSound, distance}
+use Rattle.stored_form.specs.Form.{Form, at_layout, IsSound, distance}
 use Rattle.coded_block.specs.declared.Verdict.{Verdict}
 use Rattle.coded_block.specs.declared.Verdict.TheVariants.{Near, Beyond}
 
@@ -15,11 +15,8 @@ pub record BenchNumbers : Type 0 where
   pub marks : List Bool
   pub radius : ℕ
 
-abbrev pub at_depth : ℕ → Form → Form
-at_depth depth F = record { n = F.n; k = F.k; bits = F.bits; depth = depth; radius = F.radius; places = F.places; word = F.word; near = F.near }
-
 pub record IsCode (F : Form) : Type 0 where
-  pub sound : (depth : ℕ) → 0 < depth → IsSound (at_depth depth F)
+  pub sound : (depth : ℕ) (packed : Bool) → 0 < depth → IsSound (at_layout depth packed F)
   pub bits_least : 2 ≤ F.bits
   pub n_most : F.n ≤ 1024
 

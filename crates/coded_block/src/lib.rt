@@ -1,5 +1,5 @@
-//! What coded files need of a code of blocks: the codeword of a message, the codeword near a block of bytes, and the memory
-//! to find it. Contracts see such a code as a form of the stored text. Start at `BlockCode`.
+//! What coded files need of a code of blocks: the codeword of a message, the codeword near a block of stored symbols, and
+//! the memory to find it. Contracts see such a code as a form of the stored text. Start at `BlockCode`.
 #![tactic(auto)]
 
 ghost use Rattle.std.specs.Prelude.{ℕ, ◌≡◌, ◌<◌, ◌≤◌, List, length, IfOk};
@@ -23,8 +23,9 @@ pub trait BlockBench: Drop {
     ghost numbers: { Self → BenchNumbers };
 }
 
-/// A code of blocks, with a bench for each block that is decoded at the same time. Contracts see it as a form of the
-/// stored text, which is sound in groups of every depth. Its calls take no memory, but `bench`.
+/// A code of blocks, with a bench for each block that is decoded at the same time. A block is n stored symbols, each in a
+/// byte of its own here, in whatever layout the text has them. Contracts see the code as a form of the stored text, which
+/// is sound in groups of every depth and in either layout. Its calls take no memory, but `bench`.
 pub trait BlockCode {
     type Bench: BlockBench + Send;
 
@@ -55,7 +56,7 @@ pub trait BlockCode {
         requires long { length word.old ≡ (form self.now).n }
         ensures { word.new ≡ (form self.now).word msg.now };
 
-    /// Writes the codeword near a block, or else the low bits of the block.
+    /// Writes the codeword near a block, or else the low bits of the stored symbols of the block.
     fn decode_block(&self, bench: &mut Self::Bench, got: &[u8], word: &mut [u8]) -> Verdict
         requires fits { Self.Bench.numbers bench.old ≡ numbers self.now }
         requires got_long { length got.now ≡ (form self.now).n }

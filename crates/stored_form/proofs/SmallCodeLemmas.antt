@@ -5,8 +5,8 @@ use Rattle.std.proofs.lemmas.List.{get_or-map, length-map, get_or_default}
 use Rattle.std.proofs.lemmas.List.Sums.{AllPass-from_list_all}
 use Rattle.std.proofs.lemmas.List.Elements.{All-contains, All-map}
 use Rattle.std.proofs.lemmas.Bool.{or_cases, and_parts, eqb-true, leb-true, ltb-true}
-use Rattle.stored_form.specs.Form.{IsSound, IsMessage, IsCodeword, distance}
-use Rattle.stored_form.specs.SmallCode.{small_word, small_messages, small_words, small_form, SmallImages, SmallReadings, SmallOutputs, SmallChanges, SmallEndings}
+use Rattle.stored_form.specs.Form.{at_layout, IsSound, IsMessage, IsCodeword, distance}
+use Rattle.stored_form.specs.SmallCode.{small_word, small_messages, small_words, small_form, SmallImages, SmallReadings, SmallOutputs, SmallChanges, SmallEndings, SmallPacked}
 use Rattle.stored_form.proofs.SearchLemmas.{all_lists-has, Contains-map, same_from_distance, first_within_iff, one_within}
 use Rattle.stored_form.specs.Frame.{group_blocks, framed, unframed, image}
 use Rattle.stored_form.specs.Reading.{blocks, ending, reading, out, changes}
@@ -30,6 +30,10 @@ small_changes = record { of_two_symbols = refl; of_a_byte_with_high_bits = refl;
 pub small_endings : SmallEndings
 unfolding ending blocks group_blocks unframed
 small_endings = record { of_lost_first_group = refl; of_lost_last_group = refl }
+
+pub small_packed_texts : SmallPacked
+unfolding changes reading ending blocks group_blocks unframed image framed
+small_packed_texts = record { image_of_empty_file = refl; reading_of_image = refl; reading_of_two_symbols = refl; changes_of_two_symbols = refl; reading_of_one_byte = refl; image_with_fill_bits = refl; reading_of_fill_bits = refl; changes_of_fill_bits = refl; reading_of_changed_symbol = refl }
 
 -- ---- the laws can be met: this code meets them
 apart_a : List ℕ → List ℕ → Bool
@@ -83,8 +87,8 @@ good msg pass =
 each_good : All IsGood small_messages
 each_good = λ k d h. good (get_or small_messages k d) (AllPass-from_list_all message_test small_messages all_messages_pass k d h)
 
-good_message : (depth : ℕ) (msg : List ℕ) → IsMessage (small_form depth) msg → IsGood msg
-good_message depth msg (long, fit) = All-contains IsGood small_messages msg each_good (all_lists-has 4 3 msg long fit)
+good_message : (depth : ℕ) (packed : Bool) (msg : List ℕ) → IsMessage (at_layout depth packed (small_form 1)) msg → IsGood msg
+good_message depth packed msg (long, fit) = All-contains IsGood small_messages msg each_good (all_lists-has 4 3 msg long fit)
 
 place_at : (i : ℕ) → i < 3 → slice_index (0 ∷ 1 ∷ 2 ∷ []) i ≡ i
 place_at zero h = refl
@@ -92,8 +96,8 @@ place_at (suc zero) h = refl
 place_at (suc (suc zero)) h = refl
 place_at (suc (suc (suc i))) h = absurd (omega arith)
 
-near_a : (depth : ℕ) (y c : List ℕ) → length y ≡ 8 → ((small_form depth).near y ≡ Some c) ↔ (IsCodeword (small_form depth) c × (distance y c ≤ 2))
-near_a depth y c long =
+near_a : (depth : ℕ) (packed : Bool) (y c : List ℕ) → length y ≡ 8 → ((at_layout depth packed (small_form 1)).near y ≡ Some c) ↔ (IsCodeword (at_layout depth packed (small_form 1)) c × (distance y c ≤ 2))
+near_a depth packed y c long =
     let long_words : All (λ w. length w ≡ 8) small_words = All-map (λ w. length w ≡ 8) small_word small_messages (λ k d h. refl) in
     let search = first_within_iff 2 small_words y c (one_within 2 8 small_words y long_words apart long) in (
       λ found. let (has, within) = search.0 found in let (k, below, e) = has in
@@ -103,8 +107,8 @@ near_a depth y c long =
       λ (codeword, within). let (msg, (msg_long, fit), e) = codeword in search.1 (subst (Contains small_words) (sym e) (Contains-map small_word small_messages msg (all_lists-has 4 3 msg msg_long fit)), within),
     )
 
-pub small_form_is_sound : (depth : ℕ) → 0 < depth → IsSound (small_form depth)
-small_form_is_sound depth some = record {
+pub small_form_is_sound : (depth : ℕ) (packed : Bool) → 0 < depth → IsSound (at_layout depth packed (small_form 1))
+small_form_is_sound depth packed some = record {
   k_above_0 = omega arith;
   k_within_n = omega arith;
   bits_above_0 = omega arith;
@@ -114,7 +118,7 @@ small_form_is_sound depth some = record {
   places_below_n = λ i d h. omega (arith, get_or_default (0 ∷ 1 ∷ 2 ∷ []) i d 0 h, place_at i h);
   places_rise = λ i j h l. omega (arith, place_at i (omega arith), place_at j l);
   n_symbols = λ msg is. refl;
-  symbols_fit = λ msg is. (good_message depth msg is).word_fit;
-  message_at_places = λ msg is. (good_message depth msg is).stands;
-  near_is = near_a depth;
+  symbols_fit = λ msg is. (good_message depth packed msg is).word_fit;
+  message_at_places = λ msg is. (good_message depth packed msg is).stands;
+  near_is = near_a depth packed;
 }

@@ -1,10 +1,12 @@
 -- the laws of specs/Laws, each from its lemmas
-use Rattle.std.proofs.Common.{ℕ, ◌%◌, ◌<◌, ◌≡◌, ◌⊎◌, length, inl, inr, sym, ap, ◌∙◌, arith}
+use Rattle.std.proofs.Common.{◌+◌, ◌*◌, ◌/◌, ℕ, ◌%◌, ◌<◌, ◌≡◌, ◌⊎◌, length, inl, inr, sym, ap, ◌∙◌, arith}
 use Rattle.stored_form.specs.Frame.{group_bytes, unframed}
 use Rattle.stored_form.specs.Reading.{Ragged}
-use Rattle.stored_form.specs.Laws.{FrameLaw, FillLaw, GroupLaw, ImageLaw, FileLaw, ChangeLaw, ListLaw, BeyondLaw, RaggedLaw, FramingLaw, OutLaw, SalvageLaw}
+use Rattle.stored_form.specs.Laws.{FrameLaw, FillLaw, FillBitsLaw, ValuesLaw, GroupLaw, ImageLaw, FileLaw, ChangeLaw, ListLaw, BeyondLaw, RaggedLaw, FramingLaw, OutLaw, SalvageLaw}
 use Rattle.stored_form.proofs.FrameLemmas.{fill_whole, file_bits_iff, framed_from_unframed, unframed-framed, fill_fewest}
-use Rattle.stored_form.proofs.GroupLemmas.{gather-spread, spread-gather}
+use Rattle.stored_form.proofs.GroupLemmas.{stored_blocks-stored_group, stored_blocks-texts, stored_group-stored_blocks}
+use Rattle.stored_form.proofs.Lists.{times_mod}
+use Rattle.stored_form.proofs.SymbolLemmas.{byte_fill_whole, byte_fill_fewest, bits-packed_bytes, packed_symbols-front, stored_symbols_below}
 use Rattle.stored_form.proofs.ReadingLemmas.{reading-image, changes-image, changes_near}
 use Rattle.stored_form.proofs.ConverseLemmas.{reading_iff, reading_beyond_iff, ragged_from_reading, reading_ragged_from, framing_from_reading, reading_framing_from}
 use Rattle.stored_form.proofs.DifferenceLemmas.{differences_iff}
@@ -21,8 +23,23 @@ frame_law F bits sound whole = record {
 pub fill_law : FillLaw
 fill_law F count sound = (fill_whole F count sound, λ zeros whole. fill_fewest F count zeros sound whole)
 
+pub fill_bits_law : FillBitsLaw
+fill_bits_law width symbols = record {
+  whole = ap (λ l. l % 8) (byte_fill_whole (length symbols * width)) ∙ times_mod ((length symbols * width + 7) / 8) 8 (omega arith);
+  fewest = byte_fill_fewest (length symbols * width);
+  after = bits-packed_bytes width symbols;
+  any = λ bytes rest fit e. packed_symbols-front width symbols bytes rest fit e;
+}
+
+pub values_law : ValuesLaw
+values_law packed width count bytes fit = stored_symbols_below packed width count bytes fit
+
 pub group_law : GroupLaw
-group_law n = (gather-spread n, spread-gather n)
+group_law packed width n depth = record {
+  back = stored_blocks-stored_group packed width n depth;
+  texts = stored_blocks-texts packed width n depth;
+  bytes = stored_group-stored_blocks packed width n depth;
+}
 
 pub image_law : ImageLaw
 image_law F x sound file = (reading-image F x sound file, changes-image F x sound file)

@@ -1,7 +1,11 @@
 -- FrameLaw       bits of whole groups frame a file exactly where fewer 0s than a group has follow their last 1, and whole
 --                bytes stand before it; no file frames as another's bits
 -- FillLaw        no fewer 0s make whole groups
--- GroupLaw       storing codewords position by position and gathering them undo each other
+-- FillBitsLaw    no fewer fill bits make whole bytes, packed symbols have them after their bits, and their value does
+--                not count
+-- ValuesLaw      a stored symbol has no other value than the layout says
+-- GroupLaw       a stored group gives its codewords back, in either layout, and so does a text of such groups; in
+--                layout bytes any group is the codewords gathered from it
 -- ImageLaw       the image of a file is read as that file, with no changes
 -- FileLaw        a text is read as a file exactly where it is within the radius of that file's image in each block
 -- ChangeLaw      .. and its changes then are those from its blocks to the blocks of the image
@@ -11,13 +15,15 @@
 -- FramingLaw     when a text is read as Framing
 -- OutLaw         how many bytes the corrected bits of h groups make, and that those of fewer groups stand at the front
 -- SalvageLaw     where every codeword has a near, going on past codewords without near reads, writes and tells the same
--- SmallCodeLaw   the small code of specs/SmallCode is sound in groups of every depth, so the laws are met by some code
--- FramesFile, ChangesListed, OutPart, SalvageSame   what these laws give
-use Rattle.std.specs.Prelude.{ℕ, ◌+◌, ◌*◌, ◌/◌, ◌%◌, ◌<◌, ◌≤◌, ◌≡◌, ◌↔◌, ◌⊎◌, Bool, true, false, List, [], ◌∷◌, ◌++◌, length, map, All, Contains, Some, replicate}
+-- SmallCodeLaw   the small code of specs/SmallCode is sound in groups of every depth and in either layout, so the laws
+--                are met by some code
+-- FramesFile, HasFillBits, KeepsGroups, ChangesListed, OutPart, SalvageSame   what these laws give
+use Rattle.std.specs.Prelude.{ℕ, ◌+◌, ◌*◌, ◌/◌, ◌%◌, ◌^◌, ◌<◌, ◌≤◌, ◌≡◌, ◌↔◌, ◌⊎◌, Bool, true, false, List, [], ◌∷◌, ◌++◌, length, map, flat_map, All, Contains, Some, replicate}
 use Rattle.std.specs.List.Sorted.{IsStrictlyIncreasing}
-use Rattle.stored_form.specs.Bits.{symbols_of}
-use Rattle.stored_form.specs.Form.{Form, IsSound}
-use Rattle.stored_form.specs.Group.{spread, gather}
+use Rattle.stored_form.specs.Bits.{whole_pieces, bits_of_symbols, symbols_of}
+use Rattle.stored_form.specs.Form.{Form, at_layout, IsSound}
+use Rattle.stored_form.specs.Group.{stored_group, stored_blocks}
+use Rattle.stored_form.specs.Symbols.{symbol_values, stored_size, byte_fill, fill_bits, packed_bytes, packed_symbols, stored_symbols, AreStorable}
 use Rattle.stored_form.specs.Frame.{IsFile, group_bits, group_bytes, fill, framed, unframed, image}
 use Rattle.stored_form.specs.Reading.{Beyond, Ragged, Framing, File, group_count, blocks, AllNear, corrected, reading, ending, out, IsNearImage, IsFirstLost, Change, differences, IsDifference, change_number, changes}
 use Rattle.stored_form.specs.SmallCode.{small_form}
@@ -33,8 +39,36 @@ FrameLaw = (F : Form) (bits : List Bool) → IsSound F → length bits % group_b
 abbrev pub FillLaw : Type 0
 FillLaw = (F : Form) (count : ℕ) → IsSound F → ((count + 1 + fill F count) % group_bits F ≡ 0) × ((zeros : ℕ) → (count + 1 + zeros) % group_bits F ≡ 0 → fill F count ≤ zeros)
 
+pub record HasFillBits (width : ℕ) (symbols : List ℕ) : Type 0 where
+  pub whole : (length symbols * width + byte_fill (length symbols * width)) % 8 ≡ 0
+  pub fewest : (more : ℕ) → (length symbols * width + more) % 8 ≡ 0 → byte_fill (length symbols * width) ≤ more
+  pub after : bits_of_symbols 8 (packed_bytes width symbols) ≡ bits_of_symbols width symbols ++ fill_bits width symbols
+  pub any : (bytes : List ℕ) (rest : List Bool) → All (λ s. s < 2 ^ width) symbols →
+      bits_of_symbols 8 bytes ≡ bits_of_symbols width symbols ++ rest →
+      packed_symbols width (length symbols) bytes ≡ symbols
+
+abbrev pub FillBitsLaw : Type 0
+FillBitsLaw = (width : ℕ) (symbols : List ℕ) → HasFillBits width symbols
+
+abbrev pub ValuesLaw : Type 0
+ValuesLaw = (packed : Bool) (width count : ℕ) (bytes : List ℕ) → All (λ b. b < 256) bytes →
+    All (λ s. s < symbol_values packed width) (stored_symbols packed width count bytes)
+
+pub record KeepsGroups (packed : Bool) (width n depth : ℕ) : Type 0 where
+  pub back : (words : List (List ℕ)) → length words ≡ depth → All (λ word. length word ≡ n) words →
+      All (AreStorable packed width) words →
+      stored_blocks packed width n depth (stored_group packed width n words) ≡ words
+  pub texts : (groups : List (List (List ℕ))) → 0 < width → 0 < n → 0 < depth →
+      All (λ words. length words ≡ depth) groups → All (All (λ word. length word ≡ n)) groups →
+      All (All (AreStorable packed width)) groups →
+      flat_map (stored_blocks packed width n depth)
+      (whole_pieces (stored_size packed width (n * depth)) (flat_map (stored_group packed width n) groups))
+      ≡ flat_map (λ words. words) groups
+  pub bytes : (group : List ℕ) → packed ≡ false → 0 < depth → length group ≡ n * depth →
+      stored_group packed width n (stored_blocks packed width n depth group) ≡ group
+
 abbrev pub GroupLaw : Type 0
-GroupLaw = (n : ℕ) → ((words : List (List ℕ)) → All (λ word. length word ≡ n) words → gather n (length words) (spread n words) ≡ words) × ((depth : ℕ) (group : List ℕ) → 0 < depth → length group ≡ n * depth → spread n (gather n depth group) ≡ group)
+GroupLaw = (packed : Bool) (width n depth : ℕ) → KeepsGroups packed width n depth
 
 abbrev pub ImageLaw : Type 0
 ImageLaw = (F : Form) (x : List ℕ) → IsSound F → IsFile x → (reading F (image F x) ≡ File x) × (changes F (image F x) ≡ [])
@@ -78,4 +112,4 @@ abbrev pub SalvageLaw : Type 0
 SalvageLaw = (F : Form) (z : List ℕ) → lost_count F z ≡ 0 → SalvageSame F z
 
 abbrev pub SmallCodeLaw : Type 0
-SmallCodeLaw = (depth : ℕ) → 0 < depth → IsSound (small_form depth)
+SmallCodeLaw = (depth : ℕ) (packed : Bool) → 0 < depth → IsSound (at_layout depth packed (small_form 1))

@@ -2,11 +2,14 @@
 -- small_sum, small_product        the field of four elements
 -- small_multiple, small_added     a multiple of a list, and a sum of two
 -- small_word, small_messages, small_words   the word of a message, all messages, and all words
--- small_form d                    this code, in groups of d codewords
+-- small_form d                    this code, in groups of d codewords, in layout bytes
+-- small_packed                    this code, packed, in groups of one codeword
+-- sum_word                        the word of a message of the code of three symbols
+-- sum_form                        three symbols whose sum is 0, packed: six bits, so that a group has two fill bits
 -- damaged_pair                    the image of the empty file in groups of two, with two bytes changed in each codeword
--- SmallImages, SmallReadings, SmallOutputs, SmallChanges, SmallEndings   texts worked by hand
-use Rattle.std.specs.Prelude.{ℕ, ◌+◌, ◌*◌, ◌≡◌, List, [], ◌∷◌, ◌++◌, map, replicate, slice_index}
-use Rattle.stored_form.specs.Form.{Form}
+-- SmallImages, SmallReadings, SmallOutputs, SmallChanges, SmallEndings, SmallPacked   texts worked by hand
+use Rattle.std.specs.Prelude.{true, false, ℕ, ◌+◌, ◌*◌, ◌≡◌, List, [], ◌∷◌, ◌++◌, map, replicate, slice_index}
+use Rattle.stored_form.specs.Form.{Form, at_layout}
 use Rattle.stored_form.specs.Search.{all_lists, first_within}
 use Rattle.stored_form.specs.Frame.{image}
 use Rattle.stored_form.specs.Reading.{Beyond, Ragged, Framing, File, ending, reading, out, changes}
@@ -41,10 +44,30 @@ small_form depth = record {
   k = 3;
   bits = 2;
   depth = depth;
+  packed = false;
   radius = 2;
   places = 0 ∷ 1 ∷ 2 ∷ [];
   word = small_word;
   near = first_within 2 small_words;
+}
+
+abbrev pub small_packed : Form
+small_packed = at_layout 1 true (small_form 1)
+
+abbrev pub sum_word : List ℕ → List ℕ
+sum_word msg = slice_index msg 0 ∷ slice_index msg 1 ∷ small_sum (slice_index msg 0) (slice_index msg 1) ∷ []
+
+abbrev pub sum_form : Form
+sum_form = record {
+  n = 3;
+  k = 2;
+  bits = 2;
+  depth = 1;
+  packed = true;
+  radius = 0;
+  places = 0 ∷ 1 ∷ [];
+  word = sum_word;
+  near = first_within 0 (map sum_word (all_lists 4 2));
 }
 
 abbrev pub damaged_pair : List ℕ
@@ -83,3 +106,15 @@ pub record SmallChanges : Type 0 where
 pub record SmallEndings : Type 0 where
   pub of_lost_first_group : ending (small_form 1) (1 ∷ 1 ∷ 1 ∷ 0 ∷ 0 ∷ 0 ∷ 0 ∷ 0 ∷ 1 ∷ 2 ∷ 0 ∷ 3 ∷ 0 ∷ 3 ∷ 0 ∷ 3 ∷ []) ≡ File (0x55 ∷ [])
   pub of_lost_last_group : ending (small_form 1) (replicate 32 0 ++ (1 ∷ 1 ∷ 1 ∷ 0 ∷ 0 ∷ 0 ∷ 0 ∷ 0 ∷ [])) ≡ Framing
+
+pub record SmallPacked : Type 0 where
+  pub image_of_empty_file : image small_packed [] ≡ 0x82 ∷ 0xd8 ∷ []
+  pub reading_of_image : reading small_packed (0x82 ∷ 0xd8 ∷ []) ≡ File []
+  pub reading_of_two_symbols : reading small_packed (0x84 ∷ 0xd8 ∷ []) ≡ File []
+  pub changes_of_two_symbols : changes small_packed (0x84 ∷ 0xd8 ∷ [])
+      ≡ record { group = 0; word = 0; place = 2; old = 1; new = 0 } ∷ record { group = 0; word = 0; place = 3; old = 0; new = 2 } ∷ []
+  pub reading_of_one_byte : reading small_packed (0x82 ∷ []) ≡ Ragged 1
+  pub image_with_fill_bits : image sum_form [] ≡ 0x88 ∷ []
+  pub reading_of_fill_bits : reading sum_form (0x8b ∷ []) ≡ File []
+  pub changes_of_fill_bits : changes sum_form (0x8b ∷ []) ≡ []
+  pub reading_of_changed_symbol : reading sum_form (0x8c ∷ []) ≡ Beyond 0 0

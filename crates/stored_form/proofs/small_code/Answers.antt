@@ -1,4 +1,4 @@
-use Rattle.stored_form.proofs.SmallCodeLemmas.{small_form_is_sound, small_images, small_readings, small_outputs, small_changes, small_endings}
+use Rattle.stored_form.proofs.SmallCodeLemmas.{small_form_is_sound, small_images, small_readings, small_outputs, small_changes, small_endings, small_packed_texts}
 use Rattle.stored_form.proofs.small_code.Goals as goal
 
 pub returns-clause-sound : goal.returns-clause-sound
@@ -18,3 +18,6 @@ returns-clause-changes c = small_changes
 
 pub returns-clause-endings : goal.returns-clause-endings
 returns-clause-endings c = small_endings
+
+pub returns-clause-packed : goal.returns-clause-packed
+returns-clause-packed c = small_packed_texts
