@@ -10,8 +10,7 @@ use Rattle.order_theory.specs.Basis.{Basis, IsWord, IsSoundBasis, times}
 use Rattle.order_theory.specs.Codes.{AreAllMarked, IsBound, IsNear}
 use Rattle.order_theory.proofs.Theorems.{near_law as one_is_near}
 use Rattle.order_theory.proofs.Shape.{word_below}
-use Rattle.stored_form.specs.Form.{IsMessage, IsCodeword, IsSound, distance}
-use Rattle.coded_block.specs.Codes.{at_depth}
+use Rattle.stored_form.specs.Form.{at_layout, IsMessage, IsCodeword, IsSound, distance}
 use Rattle.block_theory.specs.Checks.{ParityChecks, check_at, message_places, IsInCode, IsWordOf}
 use Rattle.block_theory.specs.Marked.{chosen, checks_of}
 use Rattle.block_theory.specs.Blocks.{word_of, near_of, form_of}
@@ -25,11 +24,11 @@ use Rattle.block_theory.proofs.Codewords.{one_codeword, word_of-same, near_of-if
 -- ---- the form of any checks with a message place and at most one codeword near
 
 module _ (c : ParityChecks) (checks : AreChecks c) (t : ℕ) where
-  fits_message : (depth : ℕ) (msg : List ℕ) → IsMessage (at_depth depth (form_of c t)) msg → IsWord c.bits (length (message_places c)) msg
-  fits_message depth msg (long, fit) = record { n_long = long; symbols = fit }
+  fits_message : (depth : ℕ) (packed : Bool) (msg : List ℕ) → IsMessage (at_layout depth packed (form_of c t)) msg → IsWord c.bits (length (message_places c)) msg
+  fits_message depth packed msg (long, fit) = record { n_long = long; symbols = fit }
 
-  word_is : (depth : ℕ) (msg : List ℕ) → IsMessage (at_depth depth (form_of c t)) msg → IsWordOf c msg (word_of c msg)
-  word_is depth msg is = (one_codeword c checks msg (fits_message depth msg is)).is_word
+  word_is : (depth : ℕ) (packed : Bool) (msg : List ℕ) → IsMessage (at_layout depth packed (form_of c t)) msg → IsWordOf c msg (word_of c msg)
+  word_is depth packed msg is = (one_codeword c checks msg (fits_message depth packed msg is)).is_word
 
   -- the symbols at the message places
   pub message_in : List ℕ → List ℕ
@@ -40,9 +39,9 @@ module _ (c : ParityChecks) (checks : AreChecks c) (t : ℕ) where
   message_in-at x i l = get_or-map (slice_index x) (message_places c) i 0 0 l
 
   -- they are a message, and a codeword is the word of its message
-  pub message_in-fits : (depth : ℕ) (x : List ℕ) → IsInCode c x → IsMessage (at_depth depth (form_of c t)) (message_in x)
+  pub message_in-fits : (depth : ℕ) (packed : Bool) (x : List ℕ) → IsInCode c x → IsMessage (at_layout depth packed (form_of c t)) (message_in x)
   unfolding message_in
-  message_in-fits depth x h = (
+  message_in-fits depth packed x h = (
     length-map (message_places c) (slice_index x),
     All-from_get_or (λ s. s < 2 ^ c.bits) (message_in x) 0
         (λ i l. let long : length (message_in x) ≡ length (message_places c) = length-map (message_places c) (slice_index x) in
@@ -52,33 +51,33 @@ module _ (c : ParityChecks) (checks : AreChecks c) (t : ℕ) where
   pub message_in-word : (x : List ℕ) → IsInCode c x → x ≡ word_of c (message_in x)
   message_in-word x h = word_of-same c checks (message_in x) x (record { in_code = h; carries = λ i l. sym (message_in-at x i l) })
 
-  message_back : (depth : ℕ) (msg : List ℕ) → IsMessage (at_depth depth (form_of c t)) msg → message_in (word_of c msg) ≡ msg
+  message_back : (depth : ℕ) (packed : Bool) (msg : List ℕ) → IsMessage (at_layout depth packed (form_of c t)) msg → message_in (word_of c msg) ≡ msg
   unfolding message_in
-  message_back depth msg is =
+  message_back depth packed msg is =
       let long : length (message_in (word_of c msg)) ≡ length (message_places c) = length-map (message_places c) (slice_index (word_of c msg)) in
       same_number_lists (message_in (word_of c msg)) msg (long ∙ sym is.0)
-      (λ i l. message_in-at (word_of c msg) i (omega arith) ∙ (word_is depth msg is).carries i (omega arith))
+      (λ i l. message_in-at (word_of c msg) i (omega arith) ∙ (word_is depth packed msg is).carries i (omega arith))
 
   -- the codewords of the form are those of the checks
-  pub codeword_iff : (depth : ℕ) (x : List ℕ) → IsCodeword (at_depth depth (form_of c t)) x ↔ IsInCode c x
-  codeword_iff depth x = (
-    λ (msg, is, e). subst (IsInCode c) (sym e) (word_is depth msg is).in_code,
-    λ h. (message_in x, message_in-fits depth x h, message_in-word x h),
+  pub codeword_iff : (depth : ℕ) (packed : Bool) (x : List ℕ) → IsCodeword (at_layout depth packed (form_of c t)) x ↔ IsInCode c x
+  codeword_iff depth packed x = (
+    λ (msg, is, e). subst (IsInCode c) (sym e) (word_is depth packed msg is).in_code,
+    λ h. (message_in x, message_in-fits depth packed x h, message_in-word x h),
   )
 
   module _ (some : 0 < length (message_places c)) (bits_few : c.bits ≤ 8) (bits_least : 2 ≤ c.bits)
       (one : (y v w : List ℕ) → length y ≡ c.n → IsInCode c v → IsInCode c w → distance y v ≤ t → distance y w ≤ t → v ≡ w) where
-    near_exact : (depth : ℕ) (y x : List ℕ) → length y ≡ c.n → (near_of c t y ≡ Some x) ↔ (IsCodeword (at_depth depth (form_of c t)) x × (distance y x ≤ t))
-    near_exact depth y x long =
+    near_exact : (depth : ℕ) (packed : Bool) (y x : List ℕ) → length y ≡ c.n → (near_of c t y ≡ Some x) ↔ (IsCodeword (at_layout depth packed (form_of c t)) x × (distance y x ≤ t))
+    near_exact depth packed y x long =
         let near = near_of-iff c t y x (λ v w hv hw. one y v w long hv hw) in
-        let code = codeword_iff depth x in (
+        let code = codeword_iff depth packed x in (
           λ found. let (h, within) = near.0 found in (code.1 h, within),
           λ (h, within). near.1 (code.0 h, within),
         )
 
-    pub form_sound : (depth : ℕ) → 0 < depth → IsSound (at_depth depth (form_of c t))
+    pub form_sound : (depth : ℕ) (packed : Bool) → 0 < depth → IsSound (at_layout depth packed (form_of c t))
     unfolding message_in
-    form_sound depth deep = record {
+    form_sound depth packed deep = record {
       k_above_0 = some;
       k_within_n = omega (arith, places_count c checks);
       bits_above_0 = omega arith;
@@ -87,10 +86,10 @@ module _ (c : ParityChecks) (checks : AreChecks c) (t : ℕ) where
       k_places = refl;
       places_below_n = All-from_get_or (λ p. p < c.n) (message_places c) 0 (places_kept c checks).below;
       places_rise = (places_kept c checks).rise;
-      n_symbols = λ msg is. (word_is depth msg is).in_code.is_word.n_long;
-      symbols_fit = λ msg is. (word_is depth msg is).in_code.is_word.symbols;
-      message_at_places = message_back depth;
-      near_is = near_exact depth;
+      n_symbols = λ msg is. (word_is depth packed msg is).in_code.is_word.n_long;
+      symbols_fit = λ msg is. (word_is depth packed msg is).in_code.is_word.symbols;
+      message_at_places = message_back depth packed;
+      near_is = near_exact depth packed;
     }
 
 -- ---- the checks of a basis

@@ -2,9 +2,9 @@
 -- codewords       the lists of n symbols that are
 -- has_message     whether a list has the message at the message places
 -- word_of         the codeword that has the message at the message places, or else zeros
--- near_of         the codeword at distance at most t from n bytes, or none
--- form_of         a code as coded files see it, in groups of one codeword
-use Rattle.std.specs.Prelude.{ℕ, ◌^◌, Bool, nat_eq, List, length, filter, find, replicate, Option, slice_index}
+-- near_of         the codeword at distance at most t from n stored symbols, or none
+-- form_of         a code as coded files see it, in groups of one codeword, in layout bytes
+use Rattle.std.specs.Prelude.{false, ℕ, ◌^◌, Bool, nat_eq, List, length, filter, find, replicate, Option, slice_index}
 use Rattle.std.specs.Option.{unwrap_or}
 use Rattle.field_theory.specs.Sums.{all_below}
 use Rattle.linear_theory.specs.Linear.{dot}
@@ -25,9 +25,19 @@ has_message c msg x = all_below (length (message_places c)) (λ i. nat_eq (slice
 unfoldable pub word_of : ParityChecks → List ℕ → List ℕ
 word_of c msg = unwrap_or (find (has_message c msg) (codewords c)) (replicate c.n 0)
 
--- bytes are compared whole, not by their low bits
+-- stored symbols are compared whole, not by their low bits
 unfoldable pub near_of : ParityChecks → ℕ → List ℕ → Option (List ℕ)
 near_of c t y = first_within t (codewords c) y
 
 abbrev pub form_of : ParityChecks → ℕ → Form
-form_of c t = record { n = c.n; k = length (message_places c); bits = c.bits; depth = 1; radius = t; places = message_places c; word = word_of c; near = near_of c t }
+form_of c t = record {
+  n = c.n;
+  k = length (message_places c);
+  bits = c.bits;
+  depth = 1;
+  packed = false;
+  radius = t;
+  places = message_places c;
+  word = word_of c;
+  near = near_of c t;
+}

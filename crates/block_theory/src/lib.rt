@@ -18,7 +18,7 @@ pub fn message_places_are_counted()
     ensures members { MembersLaw }
 {}
 
-/// A codeword near a list of bytes is found exactly where there is one: for all checks, where at most one is near, and for
+/// A codeword near a list of stored symbols is found exactly where there is one: for all checks, where at most one is near, and for
 /// the checks of a sound basis within the radius of its bound. Their codewords are those of the marked members.
 pub fn near_is_found()
     ensures code { CodeLaw }
@@ -27,7 +27,7 @@ pub fn near_is_found()
 {}
 
 /// A sound basis, marks that leave some member free, and a radius within the bound make a code that coded files can use: it
-/// is sound in groups of every depth, and its numbers are in range.
+/// is sound in groups of every depth and in either layout, and its numbers are in range.
 pub fn form_is_sound()
     ensures { FormLaw }
 {}
