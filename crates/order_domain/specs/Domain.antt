@@ -1,6 +1,7 @@
 -- Domain           what the calls of an order domain answer, and the coefficients that its laws name
 -- IsSymbol         a number is a symbol of the domain
 -- combined         a combination of the first functions, at a point
+-- AreOn            each point of a list is on the domain
 -- ArePoints        the points of a list are distinct, and each is on the domain
 -- HasRisingSums    sums are the same in either order, and a smaller pair has a smaller sum
 -- IsLedProduct     a product of two functions is their lead times one function, plus a combination of those before it
@@ -37,9 +38,12 @@ IsSymbol d x = x < 2 ^ d.bits
 abbrev pub combined : Domain → (modulus r : ℕ) → (ℕ → ℕ) → Point → ℕ
 combined d modulus r coefficients p = xor_sum r (λ k. gf_mul d.bits modulus (coefficients k) (d.eval modulus k p))
 
+abbrev pub AreOn : Domain → (modulus : ℕ) → List Point → Type 0
+AreOn d modulus points = All (λ p. IsTrue (d.on modulus p)) points
+
 pub record ArePoints (d : Domain) (modulus : ℕ) (points : List Point) : Type 0 where
   pub distinct : AllPairs (λ p q. p ≢ q) points
-  pub all_on : All (λ p. IsTrue (d.on modulus p)) points
+  pub all_on : AreOn d modulus points
 
 pub record HasRisingSums (d : Domain) : Type 0 where
   pub within : (i j s : ℕ) → i < d.count → j < d.count → d.sum i j ≡ Some s → s < d.count

@@ -5,11 +5,14 @@
 //! Source: T. Høholdt, J. H. van Lint, R. Pellikaan, "Algebraic geometry codes", in the Handbook of Coding Theory, 1998.
 #![tactic(auto)]
 
+mod points;
+
 ghost use Rattle.std.specs.Prelude.{ℕ, ◌≡◌, ◌<◌, ◌^◌, IsTrue, IsSome};
 ghost use Rattle.order_domain.specs.Domain.{Domain, IsOrderDomain};
 ghost use Rattle.order_domain.specs.Values.{ValuesLaw};
 
 use gf_field::Field;
+pub use points::{MOST_POINTS, Points};
 
 /// A point of up to three coordinates. Those that a domain does not use are 0.
 #[derive(Clone, Copy, PartialEq, Eq, Debug)]

@@ -1,11 +1,12 @@
 //! What a generic caller has of a domain: each function below is proved for every domain, by one of its laws.
 
-ghost use Rattle.std.specs.Prelude.{ℕ, ◌≡◌, ◌<◌, IsTrue, IfSome, bit_xor};
+ghost use Rattle.std.specs.Prelude.{ℕ, ◌≡◌, ◌<◌, ◌≤◌, IsTrue, IfSome, bit_xor, length};
 ghost use Rattle.gf_theory.specs.Field.{gf_mul};
 ghost use Rattle.order_domain.specs.Domain.{combined};
 
-use super::{OrderDomain, Point};
+use super::{MOST_POINTS, OrderDomain, Point, Points};
 use gf_field::{Field, PolyField};
+use std::alloc::Global;
 
 // by `neutral`
 fn sum_with_first<D: OrderDomain>(d: &D, i: u32) -> Option<u32>
@@ -43,8 +44,11 @@ fn leading_part<F: Field, D: OrderDomain>(f: &F, d: &D, i: u32, j: u32, p: &Poin
     requires right { j < (D.domain d.now).count }
     requires on { IsTrue ((D.domain d.now).on (F.modulus_of f.now) p.now) }
     ensures { IfSome result (λ v. (s : ℕ) × (
-        gf_mul (F.bits_of f.now) (F.modulus_of f.now) ((D.domain d.now).eval (F.modulus_of f.now) i p.now) ((D.domain d.now).eval (F.modulus_of f.now) j p.now)
-        ≡ bit_xor v (combined (D.domain d.now) (F.modulus_of f.now) s ((D.domain d.now).product_coefficient (F.modulus_of f.now) i j) p.now))) }
+        gf_mul (F.bits_of f.now) (F.modulus_of f.now)
+        ((D.domain d.now).eval (F.modulus_of f.now) i p.now)
+        ((D.domain d.now).eval (F.modulus_of f.now) j p.now)
+        ≡ bit_xor v (combined (D.domain d.now) (F.modulus_of f.now) s
+        ((D.domain d.now).product_coefficient (F.modulus_of f.now) i j) p.now))) }
 {
     f.bits();
     d.bits();
@@ -116,4 +120,41 @@ fn computes_on_a_line(rt: HostRuntime) {
     assert_eq!(rt; sum_with_first(&line, 3), Some(3));
     assert_eq!(rt; leading_part(&f, &line, 1, 2, &two), Some(1));
     assert_eq!(rt; leading_part(&f, &line, 2, 2, &two), None);
+}
+
+// A list of these points on the line, and what is told of it: its length, whether it has (2, 0) and whether all are on the
+// line; None where a point would be there twice.
+fn told_of(alloc: Global, f: &PolyField, xs: &[u8]) -> Option<(usize, bool, bool)>
+    requires few { length xs.now ≤ 8 }
+    requires bits { f.now.bits ≡ 2 }
+{
+    let mut points = Points::new(alloc);
+    for x in xs {
+        let point = Point { x: *x, y: 0, z: 0 };
+        if points.contains(&point) || points.len() >= MOST_POINTS {
+            return None;
+        }
+        points.push(point).ok()?;
+    }
+    let two = Point { x: 2, y: 0, z: 0 };
+    Some((
+        points.len(),
+        points.contains(&two),
+        points.are_on(f, &Line {}),
+    ))
+}
+
+#[test]
+fn keeps_points_apart(rt: HostRuntime) {
+    let alloc = rt.alloc();
+    let f = PolyField::new(2, 7).expect(&rt, "irreducible");
+    assert!(rt; Points::new(alloc).is_empty());
+    assert_eq!(rt; told_of(alloc, &f, &[0, 2]), Some((2, true, true)));
+    assert_eq!(rt; told_of(alloc, &f, &[3, 4]), Some((2, false, false)));
+    assert_eq!(rt; told_of(alloc, &f, &[1, 2, 1]), None);
+    let twice = vec![in alloc; Point { x: 1, y: 0, z: 0 }; 2].expect(&rt, "memory");
+    assert!(rt; Points::of(twice).is_none());
+    let once = vec![in alloc; Point { x: 1, y: 0, z: 0 }; 1].expect(&rt, "memory");
+    let points = Points::of(once).expect(&rt, "one point");
+    assert_eq!(rt; points.as_slice().len(), 1);
 }

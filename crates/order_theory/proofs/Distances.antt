@@ -91,6 +91,16 @@ module _ (mul : ℕ → ℕ → ℕ) (b : Basis) (h : IsSound mul b) where
         ∙ sum-zero b.n (λ i. mul (dot mul b.n e (vector b i)) (dual b i p)) (λ i l. ap (λ (y : ℕ). mul y (dual b i p)) (z i l) ∙ zero-mul (2 ^ b.bits) mul h.field (dual b i p))))
   ]
 
+  pub syn_xor : (u w : ℕ → ℕ) (k : ℕ) → syn mul b h (λ q. bit_xor (u q) (w q)) k ≡ bit_xor (syn mul b h u k) (syn mul b h w k)
+  syn_xor u w k =
+      dot_comm (2 ^ b.bits) mul h.field b.n (λ q. bit_xor (u q) (w q)) (vector b k)
+      ∙ dot_xor (2 ^ b.bits) mul h.field b.n (vector b k) u w
+      ∙ ap (λ (x : ℕ). bit_xor x (dot mul b.n (vector b k) w)) (dot_comm (2 ^ b.bits) mul h.field b.n (vector b k) u)
+      ∙ ap (λ (x : ℕ). bit_xor (syn mul b h u k) x) (dot_comm (2 ^ b.bits) mul h.field b.n (vector b k) w)
+
+  xor_none : (a : ℕ) → bit_xor a a ≡ 0
+  xor_none a = xor_self a
+
   -- two vectors within t of a third one, whose difference has no syndrome at a member with at most 2t pairs, are one
   pub near_unique : (t : ℕ) (u w y : ℕ → ℕ) → ((p : ℕ) → u p < 2 ^ b.bits) → ((p : ℕ) → w p < 2 ^ b.bits)
       → ((k : ℕ) → k < b.n → pairs_at b k ≤ 2 * t → syn mul b h u k ≡ syn mul b h w k)
@@ -103,13 +113,12 @@ module _ (mul : ℕ → ℕ → ℕ) (b : Basis) (h : IsSound mul b) where
         let few : pairs_at b f.0 ≤ 2 * t = omega (arith, f.3, weight_triangle b.n u w y) in
         absurd (f.2 (syn_xor u w f.0 ∙ ap (λ (x : ℕ). bit_xor x (syn mul b h w f.0)) (same f.0 f.1 few) ∙ xor_none (syn mul b h w f.0)))
   ]
-    where
-      syn_xor : (u w : ℕ → ℕ) (k : ℕ) → syn mul b h (λ q. bit_xor (u q) (w q)) k ≡ bit_xor (syn mul b h u k) (syn mul b h w k)
-      syn_xor u w k =
-          dot_comm (2 ^ b.bits) mul h.field b.n (λ q. bit_xor (u q) (w q)) (vector b k)
-          ∙ dot_xor (2 ^ b.bits) mul h.field b.n (vector b k) u w
-          ∙ ap (λ (x : ℕ). bit_xor x (dot mul b.n (vector b k) w)) (dot_comm (2 ^ b.bits) mul h.field b.n (vector b k) u)
-          ∙ ap (λ (x : ℕ). bit_xor (syn mul b h u k) x) (dot_comm (2 ^ b.bits) mul h.field b.n (vector b k) w)
 
-      xor_none : (a : ℕ) → bit_xor a a ≡ 0
-      xor_none a = xor_self a
+  -- two vectors that differ somewhere differ in as many places as some member has pairs at which they have other syndromes
+  pub far_apart : (u w : ℕ → ℕ) → ((p : ℕ) → u p < 2 ^ b.bits) → ((p : ℕ) → w p < 2 ^ b.bits) → (p : ℕ) → p < b.n → u p ≢ w p →
+      (k : ℕ) × (k < b.n) × (syn mul b h u k ≢ syn mul b h w k) × (pairs_at b k ≤ weight b.n (λ q. bit_xor (u q) (w q)))
+  far_apart u w su sw p lp differ =
+      let z : ℕ → ℕ = λ q. bit_xor (u q) (w q) in
+      let f : (k : ℕ) × (k < b.n) × (syn mul b h z k ≢ 0) × (pairs_at b k ≤ weight b.n z) =
+      heavy z (λ q. xor_below (2 ^ b.bits) mul h.field (u q) (w q) (su q) (sw q)) p lp (λ e. differ (xor_same (u p) (w p) e)) in
+      (f.0, f.1, (λ e. f.2 (syn_xor u w f.0 ∙ ap (λ (x : ℕ). bit_xor x (syn mul b h w f.0)) e ∙ xor_none (syn mul b h w f.0))), f.3)

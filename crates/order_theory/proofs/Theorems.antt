@@ -1,5 +1,5 @@
 -- The theorems, at lists
-use Rattle.std.proofs.Common.{◌-◌, ◌/◌, ◌≡◌, ◌≢◌, ℕ, zero, suc, ◌+◌, ◌*◌, ◌%◌, ◌^◌, ◌<◌, ◌≤◌, Bool, true, false, eqb, List, length, get_or, sym, ◌∙◌, ap, subst, inl, inr, arith, bit_xor}
+use Rattle.std.proofs.Common.{◌-◌, ◌/◌, ◌≡◌, ◌≢◌, ◌⊎◌, ℕ, zero, suc, ◌+◌, ◌*◌, ◌%◌, ◌^◌, ◌<◌, ◌≤◌, Bool, true, false, eqb, List, length, get_or, sym, ◌∙◌, ap, subst, inl, inr, arith, bit_xor}
 use Rattle.std.proofs.lemmas.Bool.{false_from_ne_true, true_from_ne_false, cases_Bool, both_ways, cond-true, cond-false, eq-eqb, eqb-true}
 use Rattle.std.proofs.lemmas.Grind.{same_number_lists}
 use Rattle.std.proofs.Math.Nat.{mod-eq_of_lt}
@@ -22,13 +22,13 @@ use Rattle.order_theory.specs.Errors.{weight, syndrome, entry, part_rank}
 use Rattle.order_theory.specs.Codes.{low_bits, marked, IsCodeword, IsBound, list_sum, distance}
 use Rattle.order_theory.specs.Voting.{SameBelow, vote_at, one_below, entry_by}
 use Rattle.order_theory.specs.Course.{IsMoved}
-use Rattle.order_theory.specs.Laws.{VotesOn, RankLaw, GreatestRankLaw, MajorityLaw, DistanceLaw, BoundLaw, RadiusLaw, NearLaw, ErrorLaw, KnownLaw, VoteLaw, VoteOnceLaw, VoteMadeLaw, ElectionLaw, CountLaw, NoErrorLaw, RecoveryLaw, SyndromeLaw, StepLaw, MarkedLaw, VotedLaw, FoundLaw, NearErrorLaw}
+use Rattle.order_theory.specs.Laws.{VotesOn, RankLaw, GreatestRankLaw, MajorityLaw, DistanceLaw, BoundLaw, ApartLaw, RadiusLaw, NearLaw, ErrorLaw, KnownLaw, VoteLaw, VoteOnceLaw, VoteMadeLaw, ElectionLaw, CountLaw, NoErrorLaw, RecoveryLaw, SyndromeLaw, StepLaw, MarkedLaw, VotedLaw, FoundLaw, NearErrorLaw}
 use Rattle.linear_theory.proofs.Functionals.{dot_xor, dot_scale}
 use Rattle.order_theory.proofs.Fields.{first_or_none}
 use Rattle.order_theory.proofs.Shape.{word_below, dual_below}
 use Rattle.order_theory.proofs.Known.{syn, entry_before, entry_at_member}
 use Rattle.order_theory.proofs.Weights.{weight-le, list_sum_back, weight_same, weight_zero, weight_is, distance_is, length-list_sum, get_or-list_sum}
-use Rattle.order_theory.proofs.Distances.{entries_below, ranks_of, are_ranks, ranks-le-weight, syn_below, heavy, near_unique}
+use Rattle.order_theory.proofs.Distances.{entries_below, ranks_of, are_ranks, ranks-le-weight, syn_below, heavy, near_unique, far_apart}
 use Rattle.order_theory.proofs.Ballots.{filled, filled_below, Keeps, candidates_same, vote_is, vote_exists, vote_once, made_is, elected_is, votes_on, votes_same, candidates_count_same}
 
 -- a list as a function of the position
@@ -75,6 +75,23 @@ pub bound_law : BoundLaw
 bound_law mul b marks d x h bound c some =
     let f : (k : ℕ) × (k < b.n) × (marked marks k ≡ false) × (pairs_at b k ≤ weight x) = distance_law mul b marks x h c some in
     omega (arith, f.3, bound.at_most f.0 f.1 f.2)
+
+-- two lists of numbers are the same, or differ at some place
+same_or_differ : (n : ℕ) (x y : List ℕ) → length x ≡ n → length y ≡ n → (x ≡ y) ⊎ ((p : ℕ) × (p < n) × (at x p ≢ at y p))
+same_or_differ n x y lx ly = elim (first_or_none n (λ p. bit_xor (at x p) (at y p))) [
+  | inr z ↦ inl (same_number_lists x y (lx ∙ sym ly) (λ p l. xor_same (at x p) (at y p) (z p (omega arith))))
+  | inl w ↦ inr (w.0, w.1, (λ e. w.2 (ap (λ (v : ℕ). bit_xor v (at y w.0)) e ∙ xor_self (at y w.0))))
+]
+
+pub apart_law : ApartLaw
+apart_law mul b marks d x x' h bound c c' other = elim (same_or_differ b.n x x' c.is_word.n_long c'.is_word.n_long) [
+  | inl same ↦ absurd (other same)
+  | inr w ↦
+      let f : (k : ℕ) × (k < b.n) × (syn mul b h (at x) k ≢ syn mul b h (at x') k) × (pairs_at b k ≤ weight_below b.n (λ p. bit_xor (at x p) (at x' p))) =
+      far_apart mul b h (at x) (at x') (word_below c.is_word) (word_below c'.is_word) w.0 w.1 w.2 in
+      let free : marked marks f.0 ≡ false = false_from_ne_true (marked marks f.0) (λ t. f.2 (c.orthogonal f.0 f.1 t ∙ sym (c'.orthogonal f.0 f.1 t))) in
+      omega (arith, f.3, bound.at_most f.0 f.1 free, distance_is b.n x x' c.is_word.n_long c'.is_word.n_long)
+]
 
 -- a member with few pairs is marked
 is_marked : (b : Basis) (marks : List Bool) (t d : ℕ) → IsBound b marks d → 2 * t < d → (k : ℕ) → k < b.n → pairs_at b k ≤ 2 * t → marked marks k ≡ true

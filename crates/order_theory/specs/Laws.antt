@@ -3,6 +3,7 @@
 -- MajorityLaw      the counts of the votes on a member, and that the right ones win where the error is light
 -- DistanceLaw      a codeword that is not zero is as heavy as the pairs of some member that is not marked
 -- BoundLaw         hence it is as heavy as the order bound
+-- ApartLaw         hence two codewords differ in as many places as the order bound says
 -- RadiusLaw        what the radius of a bound is
 -- NearLaw          at most one codeword is near a list of bytes
 -- ErrorLaw         a list of symbols has at most one light error
@@ -31,7 +32,7 @@ use Rattle.field_theory.specs.Field.{IsField}
 use Rattle.order_theory.specs.Basis.{HasShape, HasLead, IsSpannedBelow, product, Basis, IsWord, IsSound, sum_at, rank_at, pairs_at, lead, dual}
 use Rattle.order_theory.specs.Domains.{IsOrdered, HasMembers}
 use Rattle.order_theory.specs.Errors.{weight, syndrome, entry, part_rank, right_at, wrong_at, pivots_at}
-use Rattle.order_theory.specs.Codes.{low_bits, marked, IsCodeword, IsBound, IsRadius, IsNear, list_sum}
+use Rattle.order_theory.specs.Codes.{low_bits, marked, IsCodeword, IsBound, IsRadius, IsNear, list_sum, distance}
 use Rattle.order_theory.specs.Voting.{SameBelow, IsResidue, IsVote, IsElected, vote_at, votes_at, candidates_at, dual_sum}
 use Rattle.order_theory.specs.Course.{IsErrorOf, IsOnCourse, IsMoved}
 
@@ -72,6 +73,12 @@ DistanceLaw =
 abbrev pub BoundLaw : Type 0
 BoundLaw =
     (mul : ℕ → ℕ → ℕ) (b : Basis) (marks : List Bool) (d : ℕ) (x : List ℕ) → IsSound mul b → IsBound b marks d → IsCodeword mul b marks x → weight x ≢ 0 → d ≤ weight x
+
+-- hence two different codewords differ in at least as many places as each bound on them
+abbrev pub ApartLaw : Type 0
+ApartLaw =
+    (mul : ℕ → ℕ → ℕ) (b : Basis) (marks : List Bool) (d : ℕ) (x x' : List ℕ) → IsSound mul b → IsBound b marks d →
+    IsCodeword mul b marks x → IsCodeword mul b marks x' → x ≢ x' → d ≤ distance x x'
 
 -- the radius is half the bound less one, rounded down
 abbrev pub RadiusLaw : Type 0
