@@ -16,26 +16,11 @@ use Rattle.order_domain.specs.Domain.{Domain, ArePoints, IsOrderDomain}
 use Rattle.order_domain.specs.Values.{value_at, sum_or_count, lead_at, HasOrderedValues}
 use Rattle.order_domain.proofs.Values.{value_at-symbol, values_law}
 use Rattle.eval_basis.specs.Flat.{IsTable}
+use Rattle.eval_basis.specs.Stored.{basis_with, IsStored}
 use Rattle.eval_basis.specs.Found.{AreMembers, AreTables}
 use Rattle.eval_basis.specs.Built.{IsBuilt, IsMemberIndex}
 use Rattle.eval_basis.proofs.Stepping.{field_of}
 use Rattle.eval_basis.proofs.TableCounts.{table_symbols, table_row, rows_words, rows_long, table_pairs}
-
--- the basis with these tables
-abbrev pub basis_with : (bits modulus n count : ℕ) (ranks labels vectors duals counts sums leads : List ℕ) → Basis
-basis_with bits modulus n count ranks labels vectors duals counts sums leads = record {
-  bits = bits;
-  modulus = modulus;
-  n = n;
-  count = count;
-  ranks = ranks;
-  labels = labels;
-  vectors = rows_of n n vectors;
-  duals = rows_of n n duals;
-  pair_counts = counts;
-  sums = rows_of n n sums;
-  leads = rows_of n n leads;
-}
 
 pub record ArePut (d : Domain) (modulus : ℕ) (points : List Point) (ranks labels vectors duals counts sums leads : List ℕ) (lists : Matrix) : Type 0 where
   pub some_points : 1 ≤ length points
@@ -153,25 +138,31 @@ module _ (d : Domain) (modulus : ℕ) (points : List Point) (lawful : IsOrderDom
         (member_index i w.0, member_index j w.1);
   }
 
+-- the tables have n rows of n
+table_long : (n m : ℕ) (f : ℕ → ℕ → ℕ) (xs : List ℕ) → n ≡ m → IsTable n f xs → length xs ≡ m * m
+table_long n m f xs e h = h.long ∙ ap (λ (x : ℕ). x * x) e
+
 -- the same, with the numbers as the calls gave them
-pub sound_with : (d : Domain) (modulus : ℕ) (points : List Point) → IsOrderDomain d → IsModulus d.bits modulus → ArePoints d modulus points → (ranks labels vectors duals counts sums leads : List ℕ) (lists : Matrix)
-    → ArePut d modulus points ranks labels vectors duals counts sums leads lists → (bits m count : ℕ) → bits ≡ d.bits → m ≡ modulus → count ≡ d.count
-    → IsSoundBasis (basis_with bits m (length points) count ranks labels vectors duals counts sums leads)
-sound_with d modulus points lawful is_modulus are ranks labels vectors duals counts sums leads lists t bits m count e1 e2 e3 =
-    subst (λ (x : ℕ). IsSoundBasis (basis_with x m (length points) count ranks labels vectors duals counts sums leads)) (sym e1)
-    (subst (λ (x : ℕ). IsSoundBasis (basis_with d.bits x (length points) count ranks labels vectors duals counts sums leads)) (sym e2)
-    (subst (λ (x : ℕ). IsSoundBasis (basis_with d.bits modulus (length points) x ranks labels vectors duals counts sums leads)) (sym e3)
-    (assembled_sound d modulus points lawful is_modulus are ranks labels vectors duals counts sums leads lists t)))
+pub stored_with : (d : Domain) (modulus : ℕ) (points : List Point) → IsOrderDomain d → IsModulus d.bits modulus → ArePoints d modulus points → (ranks labels vectors duals counts sums leads : List ℕ) (lists : Matrix)
+    → ArePut d modulus points ranks labels vectors duals counts sums leads lists → (bits n count : ℕ) → bits ≡ d.bits → n ≡ length points → count ≡ d.count
+    → IsStored bits modulus n count ranks labels vectors duals counts sums leads
+stored_with d modulus points lawful is_modulus are ranks labels vectors duals counts sums leads lists t bits n count e1 e2 e3 =
+    subst (λ (x : ℕ). IsStored x modulus n count ranks labels vectors duals counts sums leads) (sym e1)
+    (subst (λ (x : ℕ). IsStored d.bits modulus x count ranks labels vectors duals counts sums leads) (sym e2)
+    (subst (λ (x : ℕ). IsStored d.bits modulus (length points) x ranks labels vectors duals counts sums leads) (sym e3)
+    (record {
+      n_vectors = t.members.stored.n_vectors ∙ ap (λ (x : ℕ). x * length points) t.members.n_ranks;
+      n_duals = table_long (length lists.rows) (length points) (entry lists) duals t.members.are_lists.n_rows t.tables.duals_are;
+      n_sums = table_long (length ranks) (length points) (λ i j. sum_or_count d (slice_index ranks i) (slice_index ranks j)) sums t.members.n_ranks t.tables.sums_are;
+      n_leads = table_long (length ranks) (length points) (λ i j. lead_at d modulus (slice_index ranks i) (slice_index ranks j)) leads t.members.n_ranks t.tables.leads_are;
+      sound = assembled_sound d modulus points lawful is_modulus are ranks labels vectors duals counts sums leads lists t;
+    })))
 
 pub built_with : (d : Domain) (modulus : ℕ) (points : List Point) → IsOrderDomain d → IsModulus d.bits modulus → ArePoints d modulus points → (ranks labels vectors duals counts sums leads : List ℕ) (lists : Matrix)
-    → ArePut d modulus points ranks labels vectors duals counts sums leads lists → (bits m count : ℕ) → bits ≡ d.bits → m ≡ modulus → count ≡ d.count
-    → IsBuilt d modulus points (basis_with bits m (length points) count ranks labels vectors duals counts sums leads)
-built_with d modulus points lawful is_modulus are ranks labels vectors duals counts sums leads lists t bits m count e1 e2 e3 =
-    subst (λ (x : ℕ). IsBuilt d modulus points (basis_with x m (length points) count ranks labels vectors duals counts sums leads)) (sym e1)
-    (subst (λ (x : ℕ). IsBuilt d modulus points (basis_with d.bits x (length points) count ranks labels vectors duals counts sums leads)) (sym e2)
+    → ArePut d modulus points ranks labels vectors duals counts sums leads lists → (bits n count : ℕ) → bits ≡ d.bits → n ≡ length points → count ≡ d.count
+    → IsBuilt d modulus points (basis_with bits modulus n count ranks labels vectors duals counts sums leads)
+built_with d modulus points lawful is_modulus are ranks labels vectors duals counts sums leads lists t bits n count e1 e2 e3 =
+    subst (λ (x : ℕ). IsBuilt d modulus points (basis_with x modulus n count ranks labels vectors duals counts sums leads)) (sym e1)
+    (subst (λ (x : ℕ). IsBuilt d modulus points (basis_with d.bits modulus x count ranks labels vectors duals counts sums leads)) (sym e2)
     (subst (λ (x : ℕ). IsBuilt d modulus points (basis_with d.bits modulus (length points) x ranks labels vectors duals counts sums leads)) (sym e3)
     (assembled_built d modulus points lawful is_modulus are ranks labels vectors duals counts sums leads lists t)))
-
--- the tables have n rows of n
-pub table_long : (n m : ℕ) (f : ℕ → ℕ → ℕ) (xs : List ℕ) → n ≡ m → IsTable n f xs → length xs ≡ m * m
-table_long n m f xs e h = h.long ∙ ap (λ (x : ℕ). x * x) e

@@ -63,20 +63,20 @@ word_lengths bits n xs words = λ i d l. (words i d l).n_long
 -- ---- what is new does not depend on the basis
 
 module _ (d : Domain) (modulus : ℕ) (points : List Point) (b : Basis) (built : IsBuilt d modulus points b) where
-  fresh_at : (k : ℕ) → k < length points → IsCombination (gf_mul d.bits modulus) (length points) (value_at d modulus points) (rank_at b k) (value_at d modulus points (rank_at b k)) → ⊥
+  pub fresh_at : (k : ℕ) → k < length points → IsCombination (gf_mul d.bits modulus) (length points) (value_at d modulus points) (rank_at b k) (value_at d modulus points (rank_at b k)) → ⊥
   fresh_at k l c = built.members.new k (let e : b.n ≡ length points = built.n_is in omega arith) (rw (built.bits_are, built.modulus_is, built.n_is) c)
 
   mul_is : (r : ℕ) (factors : ℕ → ℕ) (p : ℕ) → combine (times b) r factors (value_at d modulus points) p ≡ combine (gf_mul d.bits modulus) r factors (value_at d modulus points) p
   mul_is r factors p = rw (built.bits_are, built.modulus_is) refl
 
-  other_at : (i : ℕ) → i < d.count → ((k : ℕ) → k < length points → i ≢ rank_at b k) → IsCombination (gf_mul d.bits modulus) (length points) (value_at d modulus points) i (value_at d modulus points i)
+  pub other_at : (i : ℕ) → i < d.count → ((k : ℕ) → k < length points → i ≢ rank_at b k) → IsCombination (gf_mul d.bits modulus) (length points) (value_at d modulus points) i (value_at d modulus points i)
   other_at i l none =
       let n_is : b.n ≡ length points = built.n_is in
       let count_is : b.count ≡ d.count = built.count_is in
       let c : IsCombination (times b) b.n (value_at d modulus points) i (value_at d modulus points i) = built.members.others i (omega arith) (λ k lk. none k (omega arith)) in
       record { factors = c.factors; is_sum = λ p lp. c.is_sum p (omega arith) ∙ mul_is i c.factors p }
 
-  below_count : (k : ℕ) → k < length points → rank_at b k < d.count
+  pub below_count : (k : ℕ) → k < length points → rank_at b k < d.count
   below_count k l =
       let n_is : b.n ≡ length points = built.n_is in
       let count_is : b.count ≡ d.count = built.count_is in

@@ -9,3 +9,4 @@ pub mod TableCounts
 pub mod Assembly
 pub mod ByLabels
 pub mod Determined
+pub mod Membership

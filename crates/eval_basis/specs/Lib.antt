@@ -6,3 +6,4 @@ pub mod Flat
 pub mod Built
 pub mod ByLabels
 pub mod Determined
+pub mod Members

@@ -3,17 +3,18 @@
 ghost use Rattle.std.specs.Prelude.{◌≡◌, ◌<◌, [], slice_index_or};
 ghost use Rattle.order_theory.specs.Basis.{IsSoundBasis, rank_at as rank_of, label as label_of, pairs_at, sum_at as sum_of, lead as lead_of};
 
+use gf_field::Field;
 use std::marker::Model;
 
 /// The values of n functions at n points, which are independent, with the lists dual to them. Its members are numbered
 /// from 0 to n - 1, by rising label. It keeps of the functions what a decoder needs: which sums of two members there
 /// are, and the factor of a sum in the product of two. Every basis is sound.
 ///
-/// No call takes memory. In all calls k, i and j are below `n()`.
+/// It owns the field that its symbols are of, so a call that is handed a basis needs no field beside it. No call takes
+/// memory. In all calls k, i and j are below `n()`.
 #[derive(Drop)]
-pub struct EvalBasis {
-    pub(crate) bits: u32,
-    pub(crate) modulus: u32,
+pub struct EvalBasis<F: Field> {
+    pub(crate) field: F,
     pub(crate) n: u32,
     pub(crate) count: u32,
     pub(crate) ranks: Vec<u32>,
@@ -26,25 +27,37 @@ pub struct EvalBasis {
     pub(crate) leads: Vec<u8>,
 }
 
-impl Model for EvalBasis {
+impl<F: Field> Model for EvalBasis<F> {
     ghost use Rattle.order_theory.specs.Basis.{Basis};
+    ghost use Rattle.eval_basis.specs.Stored.{basis_with, IsStored};
 
     ghost Value = { Basis };
 
-    ghost use Rattle.eval_basis.specs.Stored.{basis_of, IsStored};
+    ghost view = { λ s. basis_with (F.bits_of s.field) (F.modulus_of s.field) s.n s.count
+        s.ranks.items
+        s.labels.items s.vectors.items s.duals.items s.pair_counts.items s.sums.items s.leads.items };
 
-    ghost view = { basis_of };
-
-    ghost invariant = { IsStored };
+    ghost invariant = { λ s. IsStored (F.bits_of s.field) (F.modulus_of s.field) s.n s.count
+        s.ranks.items
+        s.labels.items s.vectors.items s.duals.items s.pair_counts.items s.sums.items s.leads.items };
 }
 
-impl EvalBasis {
+impl<F: Field> EvalBasis<F> {
+    /// The field: its bits and its modulus are those of the basis.
+    pub fn field(&self) -> &F
+        ensures bits { F.bits_of result.now ≡ self.now.bits }
+        ensures modulus { F.modulus_of result.now ≡ self.now.modulus }
+        ensures sound { IsSoundBasis self.now }
+    {
+        &self.field
+    }
+
     /// The bits of a symbol.
     pub fn bits(&self) -> u32
         ensures value { result ≡ self.now.bits }
         ensures sound { IsSoundBasis self.now }
     {
-        self.bits
+        self.field.bits()
     }
 
     /// The modulus of the field.
@@ -52,7 +65,7 @@ impl EvalBasis {
         ensures value { result ≡ self.now.modulus }
         ensures sound { IsSoundBasis self.now }
     {
-        self.modulus
+        self.field.modulus()
     }
 
     /// The number of functions of the domain: an index from here up is none.

@@ -5,6 +5,7 @@ ghost use Rattle.order_theory.specs.Codes.{marked};
 ghost use Rattle.eval_basis.specs.Rules.{rule_checks, checked_by};
 
 use crate::basis::EvalBasis;
+use gf_field::Field;
 use std::alloc::{AllocError, Global};
 use std::marker::Model;
 
@@ -48,7 +49,11 @@ impl Model for Checked {
 
 impl Checked {
     /// The marks that the rule gives.
-    pub fn new(alloc: Global, basis: &EvalBasis, rule: CheckRule) -> Result<Checked, AllocError>
+    pub fn new<F: Field>(
+        alloc: Global,
+        basis: &EvalBasis<F>,
+        rule: CheckRule,
+    ) -> Result<Checked, AllocError>
         ensures marks { IfOk result (λ c. c ≡ checked_by basis.now rule) }
         ensures long { IfOk result (λ c. length c ≡ basis.now.n) }
     {

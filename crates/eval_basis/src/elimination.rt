@@ -35,7 +35,9 @@ fn multiply<F: Field>(f: &F, values: &[u8], lists: &mut Matrix)
     ensures lists { AreLists (F.bits_of f.now) (length values.now) lists.new }
     ensures kept { AreKept (length values.now) lists.old lists.new }
     ensures products { (q : ℕ) → q < length values.now →
-        entry lists.new q (length values.now) ≡ dot_of (gf_mul (F.bits_of f.now) (F.modulus_of f.now)) (length values.now) (slice_index values.now) (entry lists.old q) }
+        entry lists.new q (length values.now)
+        ≡ dot_of (gf_mul (F.bits_of f.now) (F.modulus_of f.now)) (length values.now)
+        (slice_index values.now) (entry lists.old q) }
 {
     let n = values.len();
     for q in 0..n as u32 {
@@ -48,8 +50,11 @@ fn multiply<F: Field>(f: &F, values: &[u8], lists: &mut Matrix)
 fn first_seeing(lists: &Matrix, k: u32) -> Option<u32>
     requires { lists.now.cols ≡ length lists.now.rows + 1 }
     ensures { MatchOption result
-        ((q : ℕ) → k ≤ q → q < length lists.now.rows → entry lists.now q (length lists.now.rows) ≡ 0)
-        (λ q. (k ≤ q) × (q < length lists.now.rows) × (entry lists.now q (length lists.now.rows) ≢ 0) × ((p : ℕ) → k ≤ p → p < q → entry lists.now p (length lists.now.rows) ≡ 0)) }
+        ((q : ℕ) → k ≤ q → q < length lists.now.rows →
+        entry lists.now q (length lists.now.rows) ≡ 0)
+        (λ q. (k ≤ q) × (q < length lists.now.rows)
+        × (entry lists.now q (length lists.now.rows) ≢ 0)
+        × ((p : ℕ) → k ≤ p → p < q → entry lists.now p (length lists.now.rows) ≡ 0)) }
 {
     let n = lists.rows();
     for q in k..n {
@@ -68,7 +73,8 @@ fn pivot_list<F: Field>(f: &F, lists: &Matrix, k: u32, q: u32, pivot: &mut [u8])
     requires seeing { entry lists.now q (length lists.now.rows) ≢ 0 }
     requires room { length pivot.old ≡ length lists.now.rows + 1 }
     ensures symbols { All (λ x. x < 2 ^ F.bits_of f.now) pivot.new }
-    ensures pivot { IsPivot (F.bits_of f.now) (F.modulus_of f.now) (length lists.now.rows) k q lists.now pivot.new }
+    ensures pivot { IsPivot (F.bits_of f.now) (F.modulus_of f.now) (length lists.now.rows) k q
+        lists.now pivot.new }
 {
     if q == k {
         pivot.fill(0);
@@ -89,7 +95,9 @@ fn clear_others<F: Field>(f: &F, lists: &mut Matrix, k: u32, pivot: &[u8], row: 
     ensures lists { AreLists (F.bits_of f.now) (length lists.old.rows) lists.new }
     ensures pivot { (p : ℕ) → entry lists.new k p ≡ entry lists.old k p }
     ensures others { (q p : ℕ) → q < length lists.old.rows → q ≢ k → p < length lists.old.rows + 1 →
-        entry lists.new q p ≡ bit_xor (entry lists.old q p) (gf_mul (F.bits_of f.now) (F.modulus_of f.now) (entry lists.old q (length lists.old.rows)) (slice_index pivot.now p)) }
+        entry lists.new q p ≡ bit_xor (entry lists.old q p)
+        (gf_mul (F.bits_of f.now) (F.modulus_of f.now) (entry lists.old q (length lists.old.rows))
+        (slice_index pivot.now p)) }
 {
     let n = lists.rows();
     for q in 0..n {
@@ -118,7 +126,8 @@ pub fn step<F: Field>(
     requires pivot_room { length pivot.old ≡ length values.now + 1 }
     requires row_room { length row.old ≡ length values.now + 1 }
     ensures lists { AreLists (F.bits_of f.now) (length values.now) lists.new }
-    ensures step { IsStep (2 ^ F.bits_of f.now) (gf_mul (F.bits_of f.now) (F.modulus_of f.now)) (length values.now) k values.now lists.old lists.new result }
+    ensures step { IsStep (2 ^ F.bits_of f.now) (gf_mul (F.bits_of f.now) (F.modulus_of f.now))
+        (length values.now) k values.now lists.old lists.new result }
     ensures within { IsTrue result → k < length values.now }
 {
     f.bits();

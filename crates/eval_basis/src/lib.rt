@@ -4,6 +4,7 @@
 
 ghost use Rattle.eval_basis.specs.ByLabels.{AtMostLaw};
 ghost use Rattle.eval_basis.specs.Determined.{DeterminedLaw};
+ghost use Rattle.eval_basis.specs.Members.{RuleLaw};
 
 mod basis;
 mod build;
@@ -14,6 +15,12 @@ mod tables;
 
 pub use basis::EvalBasis;
 pub use checked::{CheckRule, Checked};
+
+/// The code of any rule on a built basis is the set of the lists that are orthogonal to the values of the members that the
+/// rule checks. The contract is the theorem.
+pub fn code_by_rule()
+    ensures { RuleLaw }
+{}
 
 /// The code of the rule `AtMost` on a built basis is the set of the lists that are orthogonal to the values of all functions
 /// of the domain whose labels are at most the weight, members or not. The contract is the theorem.

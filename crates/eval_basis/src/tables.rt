@@ -25,7 +25,8 @@ pub struct Tables {
 #[tactic(auto, using(crate::proofs::Pushing::pushing))]
 fn labels_of<D: OrderDomain>(alloc: Global, dom: &D, ranks: &[u32]) -> Result<Vec<u32>, AllocError>
     requires { (k : ℕ) → k < length ranks.now → slice_index ranks.now k < (D.domain dom.now).count }
-    ensures { IfOk result (λ v. IsList (length ranks.now) (λ k. (D.domain dom.now).label (slice_index ranks.now k)) v.items) }
+    ensures { IfOk result (λ v. IsList (length ranks.now)
+        (λ k. (D.domain dom.now).label (slice_index ranks.now k)) v.items) }
 {
     let mut labels = Vec::with_capacity(alloc, ranks.len())?;
     for rank in ranks {
@@ -50,8 +51,11 @@ fn sum_or_count<D: OrderDomain>(dom: &D, i: u32, j: u32) -> u32
 #[tactic(auto, using(crate::proofs::Pushing::pushing))]
 fn sums_of<D: OrderDomain>(alloc: Global, dom: &D, ranks: &[u32]) -> Result<Vec<u32>, AllocError>
     requires few { length ranks.now ≤ 1024 }
-    requires below { (k : ℕ) → k < length ranks.now → slice_index ranks.now k < (D.domain dom.now).count }
-    ensures { IfOk result (λ v. IsTable (length ranks.now) (λ i j. sum_or_count_of (D.domain dom.now) (slice_index ranks.now i) (slice_index ranks.now j)) v.items) }
+    requires below { (k : ℕ) → k < length ranks.now →
+        slice_index ranks.now k < (D.domain dom.now).count }
+    ensures { IfOk result (λ v. IsTable (length ranks.now)
+        (λ i j. sum_or_count_of (D.domain dom.now) (slice_index ranks.now i)
+        (slice_index ranks.now j)) v.items) }
 {
     let mut sums = Vec::with_capacity(alloc, ranks.len() * ranks.len())?;
     for i in 0..ranks.len() {
@@ -86,8 +90,11 @@ fn leads_of<F: Field, D: OrderDomain>(
 ) -> Result<Vec<u8>, AllocError>
     requires bits { F.bits_of f.now ≡ (D.domain dom.now).bits }
     requires few { length ranks.now ≤ 1024 }
-    requires below { (k : ℕ) → k < length ranks.now → slice_index ranks.now k < (D.domain dom.now).count }
-    ensures leads { IfOk result (λ v. IsTable (length ranks.now) (λ i j. lead_at (D.domain dom.now) (F.modulus_of f.now) (slice_index ranks.now i) (slice_index ranks.now j)) v.items) }
+    requires below { (k : ℕ) → k < length ranks.now →
+        slice_index ranks.now k < (D.domain dom.now).count }
+    ensures leads { IfOk result (λ v. IsTable (length ranks.now)
+        (λ i j. lead_at (D.domain dom.now) (F.modulus_of f.now) (slice_index ranks.now i)
+        (slice_index ranks.now j)) v.items) }
     ensures symbols { IfOk result (λ v. All (λ x. x < 2 ^ F.bits_of f.now) v.items) }
 {
     let mut leads = Vec::with_capacity(alloc, ranks.len() * ranks.len())?;
@@ -117,10 +124,14 @@ fn duals_of(alloc: Global, lists: &Matrix) -> Result<Vec<u8>, AllocError>
 fn numbers_of(alloc: Global, count: u32, ranks: &[u32]) -> Result<Vec<u32>, AllocError>
     requires few { length ranks.now ≤ 1024 }
     requires below { (k : ℕ) → k < length ranks.now → slice_index ranks.now k < count }
-    requires rising { (j k : ℕ) → j < k → k < length ranks.now → slice_index ranks.now j < slice_index ranks.now k }
+    requires rising { (j k : ℕ) → j < k → k < length ranks.now →
+        slice_index ranks.now j < slice_index ranks.now k }
     ensures long { IfOk result (λ v. length v.items ≡ count) }
-    ensures member { IfOk result (λ v. (k : ℕ) → k < length ranks.now → slice_index v.items (slice_index ranks.now k) ≡ k) }
-    ensures found { IfOk result (λ v. (s : ℕ) → s < count → slice_index v.items s < length ranks.now → slice_index ranks.now (slice_index v.items s) ≡ s) }
+    ensures member { IfOk result (λ v. (k : ℕ) → k < length ranks.now →
+        slice_index v.items (slice_index ranks.now k) ≡ k) }
+    ensures found { IfOk result (λ v. (s : ℕ) → s < count →
+        slice_index v.items s < length ranks.now →
+        slice_index ranks.now (slice_index v.items s) ≡ s) }
 {
     let mut numbers = vec![in alloc; ranks.len() as u32; count as usize]?;
     for k in 0..ranks.len() {
@@ -139,8 +150,10 @@ fn pair_counts_of(
     requires few { length ranks.now ≤ 1024 }
     requires few_sums { length sums.now < 2 ^ 32 }
     requires below { (k : ℕ) → k < length ranks.now → slice_index ranks.now k < count }
-    requires rising { (j k : ℕ) → j < k → k < length ranks.now → slice_index ranks.now j < slice_index ranks.now k }
-    ensures { IfOk result (λ v. IsList (length ranks.now) (λ k. count_by (λ s. s == slice_index ranks.now k) sums.now) v.items) }
+    requires rising { (j k : ℕ) → j < k → k < length ranks.now →
+        slice_index ranks.now j < slice_index ranks.now k }
+    ensures { IfOk result (λ v. IsList (length ranks.now)
+        (λ k. count_by (λ s. s == slice_index ranks.now k) sums.now) v.items) }
 {
     let numbers = numbers_of(alloc, count, ranks)?;
     let mut counts = vec![in alloc; 0u32; ranks.len()]?;
@@ -165,10 +178,13 @@ pub fn tables_of<F: Field, D: OrderDomain>(
 ) -> Result<Tables, AllocError>
     requires bits { F.bits_of f.now ≡ (D.domain dom.now).bits }
     requires few { length ranks.now ≤ 1024 }
-    requires below { (k : ℕ) → k < length ranks.now → slice_index ranks.now k < (D.domain dom.now).count }
-    requires rising { (j k : ℕ) → j < k → k < length ranks.now → slice_index ranks.now j < slice_index ranks.now k }
+    requires below { (k : ℕ) → k < length ranks.now →
+        slice_index ranks.now k < (D.domain dom.now).count }
+    requires rising { (j k : ℕ) → j < k → k < length ranks.now →
+        slice_index ranks.now j < slice_index ranks.now k }
     requires lists { lists.now.cols ≡ length lists.now.rows + 1 }
-    ensures { IfOk result (λ t. AreTables (D.domain dom.now) (F.modulus_of f.now) ranks.now lists.now t.labels.items t.duals.items t.pair_counts.items t.sums.items t.leads.items) }
+    ensures { IfOk result (λ t. AreTables (D.domain dom.now) (F.modulus_of f.now) ranks.now
+        lists.now t.labels.items t.duals.items t.pair_counts.items t.sums.items t.leads.items) }
 {
     let sums = sums_of(alloc, dom, ranks)?;
     Ok(Tables {

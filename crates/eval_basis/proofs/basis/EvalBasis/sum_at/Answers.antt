@@ -4,4 +4,4 @@ use Rattle.eval_basis.proofs.FlatReads.{entry_read}
 use Rattle.eval_basis.proofs.basis.EvalBasis.sum_at.Goals as goal
 
 pub returns-clause-value : goal.returns-clause-value
-returns-clause-value c = entry_read c.self.inside.n c.args.i c.args.j _ _ _ (ap (λ (b : Basis). b.sums) c.self.view_is) c.self.invariant.n_sums c.index.ensures (search rules) (search rules)
+returns-clause-value g c = entry_read c.self.inside.n c.args.i c.args.j _ _ _ (ap (λ (b : Basis). b.sums) c.self.view_is) c.self.invariant.n_sums c.index.ensures (search rules) (search rules)

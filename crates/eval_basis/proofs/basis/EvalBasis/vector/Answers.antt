@@ -4,4 +4,4 @@ use Rattle.eval_basis.proofs.FlatReads.{row_read}
 use Rattle.eval_basis.proofs.basis.EvalBasis.vector.Goals as goal
 
 pub returns-clause-value : goal.returns-clause-value
-returns-clause-value c = row_read c.self.inside.n c.args.k _ _ _ (ap (λ (b : Basis). b.vectors) c.self.view_is) c.deref.ensures.value (search rules)
+returns-clause-value g c = row_read c.self.inside.n c.args.k _ _ _ (ap (λ (b : Basis). b.vectors) c.self.view_is) c.deref.ensures.value (search rules)

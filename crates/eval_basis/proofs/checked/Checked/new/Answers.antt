@@ -6,7 +6,7 @@ use Rattle.eval_basis.proofs.checked.Checked.new.Goals as goal
 use Rattle.eval_basis.proofs.checked.Checked.new.Goals.{then-mark, else-mark}
 
 pub loop-k-preserved : goal.loop-k-preserved
-loop-k-preserved c =
+loop-k-preserved g c =
     record {
       made = marks_more (λ i. rule_checks c.args.rule (label c.args.basis.now i) (pairs_at c.args.basis.now i)) c.loop-k.k _ c.loop-k.marks.items c.push.new.self.items c.loop-k.invariant.made (search rules) c.in_ok-push.ensures.items;
       counted = elim c.if-mark.branch [
@@ -20,4 +20,4 @@ loop-k-preserved c =
     }
 
 pub returns-clause-long : goal.returns-clause-long
-returns-clause-long c = marks_all (λ i. rule_checks c.args.rule (label c.args.basis.now i) (pairs_at c.args.basis.now i)) c.loop-k.k _ c.loop-k.marks.items c.loop-k.invariant.made (omega arith)
+returns-clause-long g c = marks_all (λ i. rule_checks c.args.rule (label c.args.basis.now i) (pairs_at c.args.basis.now i)) c.loop-k.k _ c.loop-k.marks.items c.loop-k.invariant.made (omega arith)
