@@ -1,5 +1,5 @@
 -- Lists of normal terms: one term after the other, and that their coefficients determine them
-use Rattle.std.proofs.Common.{◌≡◌, ◌≢◌, ℕ, zero, suc, ◌+◌, ◌-◌, ◌*◌, ◌<◌, ◌≤◌, ◌^◌, cond, eqb, leb, ltb, ◌&&◌, Bool, true, false, List, [], ◌∷◌, ◌++◌, length, get_or, sym, ◌∙◌, ap, subst, refl, inl, inr, arith}
+use Rattle.std.proofs.Common.{◌≡◌, ◌≢◌, ℕ, zero, suc, ◌+◌, ◌-◌, ◌*◌, ◌<◌, ◌≤◌, ◌^◌, cond, eqb, leb, ltb, ◌&&◌, Bool, true, false, List, [], ◌∷◌, ◌++◌, length, sym, ◌∙◌, ap, subst, refl, inl, inr, arith}
 use Rattle.std.specs.Prelude.{slice_index, slice_index_or, Result, Ok, Err, IfOk}
 use Rattle.std.specs.List.{All, AllPairs}
 use Rattle.std.proofs.Math.ListN.{get_or-eq_default}

@@ -1,5 +1,6 @@
--- cab_domain-lawful    the domain of a curve meets the laws of an order domain
-use Rattle.std.proofs.Common.{◌≡◌, ℕ, ◌<◌, ◌≤◌, ◌^◌, IsTrue, true, ◌==◌, ◌&&◌, List, length, sym, ◌∙◌, ap, inl, inr, arith}
+-- cab_domain-functions    what is named of the domain of a curve are its functions
+-- cab_domain-lawful       the domain of a curve meets the laws of an order domain
+use Rattle.std.proofs.Common.{◌≡◌, ℕ, ◌<◌, ◌≤◌, ◌^◌, IsTrue, true, ◌==◌, ◌&&◌, List, length, sym, ◌∙◌, ap, refl, inl, inr, arith}
 use Rattle.std.specs.Prelude.{nat_lt}
 use Rattle.std.proofs.lemmas.Bool.{and_parts, ltb-true, eqb-true, cases_order}
 use Rattle.field_theory.specs.Field.{IsField}
@@ -14,9 +15,13 @@ use Rattle.curve_theory.proofs.Separate.{separation}
 use Rattle.order_domain.specs.declared.Point.{Point}
 use Rattle.order_domain.specs.Points.{origin, point_at}
 use Rattle.order_domain.specs.Domain.{ArePoints as ArePointsOf, HasRisingSums, IsLedProduct, IsSeparated, IsOrderDomain}
+use Rattle.order_domain.specs.Functions.{functions_of}
 use Rattle.cab_curve.specs.Equation.{Equation}
 use Rattle.cab_curve.specs.Points.{is_on_curve}
-use Rattle.cab_curve.specs.Domain.{x_at, y_at, top_of, cab_domain}
+use Rattle.cab_curve.specs.Domain.{x_at, y_at, top_of, cab_functions, cab_domain}
+
+pub cab_domain-functions : (e : Equation) → functions_of (cab_domain e) ≡ cab_functions e
+cab_domain-functions e = refl
 
 field_of : (bits modulus : ℕ) → IsModulus bits modulus → IsField (2 ^ bits) (gf_mul bits modulus)
 field_of bits modulus h = let two : 2 ≤ bits = h.at_least_two in field_of_modulus bits modulus (omega arith) h.irreducible

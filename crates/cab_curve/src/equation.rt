@@ -40,7 +40,8 @@ impl Model for Curve {
 
     ghost view = { λ c. record { bits = c.bits; a = c.a; b = c.b; terms = c.terms.items } };
 
-    ghost invariant = { λ c. IsCurve (record { bits = c.bits; a = c.a; b = c.b; terms = c.terms.items }) };
+    ghost invariant = { λ c.
+        IsCurve (record { bits = c.bits; a = c.a; b = c.b; terms = c.terms.items }) };
 }
 
 // Whether a term has these exponents.
@@ -95,9 +96,12 @@ impl Curve {
         terms: &[Term],
     ) -> Result<Curve, CurveFault>
         requires few { length terms.now < 2 ^ 32 }
-        ensures accepted { IfOk result (λ _. curve_refusal (2 ^ F.bits_of f.now) a b terms.now ≡ None) }
-        ensures curve { IfOk result (λ c. c ≡ record { bits = F.bits_of f.now; a = a; b = b; terms = terms.now }) }
-        ensures refused { IfErr result (λ e. e ≢ CurveFault.NoMemory → curve_refusal (2 ^ F.bits_of f.now) a b terms.now ≡ Some e) }
+        ensures accepted { IfOk result (λ _.
+            curve_refusal (2 ^ F.bits_of f.now) a b terms.now ≡ None) }
+        ensures curve { IfOk result (λ c.
+            c ≡ record { bits = F.bits_of f.now; a = a; b = b; terms = terms.now }) }
+        ensures refused { IfErr result (λ e. e ≢ CurveFault.NoMemory →
+            curve_refusal (2 ^ F.bits_of f.now) a b terms.now ≡ Some e) }
     {
         if Semi::new(a, b).is_none() {
             return Err(CurveFault::BadDegrees);

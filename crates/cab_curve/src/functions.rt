@@ -25,7 +25,8 @@ pub struct FunctionTable {
 /// The functions whose weights are at most `top`.
 pub fn functions_up_to(alloc: Global, semi: &Semi, top: u32) -> Result<FunctionTable, AllocError>
     requires { top ≤ 65535 }
-    ensures { IfOk result (λ t. IsFunctionTable semi.now.a semi.now.b top t.rows.items t.places.items) }
+    ensures { IfOk result (λ t.
+        IsFunctionTable semi.now.a semi.now.b top t.rows.items t.places.items) }
 {
     let mut rows = Vec::new(alloc);
     let mut places = Vec::new(alloc);

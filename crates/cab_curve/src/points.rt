@@ -15,7 +15,8 @@ fn value_at<F: Field>(f: &F, terms: &[Term], p: &Point) -> u8
     requires symbols { All (λ t. t.c < 2 ^ F.bits_of f.now) terms.now }
     requires x { p.now.x < 2 ^ F.bits_of f.now }
     requires y { p.now.y < 2 ^ F.bits_of f.now }
-    ensures { result ≡ value (gf_mul (F.bits_of f.now) (F.modulus_of f.now)) terms.now p.now.x p.now.y }
+    ensures { result
+        ≡ value (gf_mul (F.bits_of f.now) (F.modulus_of f.now)) terms.now p.now.x p.now.y }
 {
     let mut sum = 0;
     for term in terms {
@@ -29,9 +30,11 @@ impl Curve {
     #[tactic(auto, using(std::proofs::lemmas::Bool::Decides::nat_tests), unfolding(crate::specs::Points::is_on_curve))]
     pub fn holds<F: Field>(&self, f: &F, p: &Point) -> bool
         requires { F.bits_of f.now ≡ self.now.bits }
-        ensures test { result ≡ is_on_curve (F.bits_of f.now) (F.modulus_of f.now) self.now.terms p.now }
+        ensures test { result
+            ≡ is_on_curve (F.bits_of f.now) (F.modulus_of f.now) self.now.terms p.now }
         ensures on_curve { IsTrue result
-            ↔ (p.now.z ≡ 0) × IsOnCurve (2 ^ F.bits_of f.now) (gf_mul (F.bits_of f.now) (F.modulus_of f.now)) self.now.terms p.now.x p.now.y }
+            ↔ (p.now.z ≡ 0) × IsOnCurve (2 ^ F.bits_of f.now)
+            (gf_mul (F.bits_of f.now) (F.modulus_of f.now)) self.now.terms p.now.x p.now.y }
     {
         let size = 1u32 << f.bits();
         let are_symbols = u32::from(p.x) < size && u32::from(p.y) < size;
@@ -42,7 +45,9 @@ impl Curve {
     fn push_row<F: Field>(&self, f: &F, x: u8, points: &mut Vec<Point>) -> Result<(), AllocError>
         requires { F.bits_of f.now ≡ self.now.bits }
         ensures { OnOk result (points.new.items
-            ≡ points.old.items ++ filter (is_on_curve (F.bits_of f.now) (F.modulus_of f.now) self.now.terms) (points_of_row (2 ^ F.bits_of f.now) x)) }
+            ≡ points.old.items
+            ++ filter (is_on_curve (F.bits_of f.now) (F.modulus_of f.now) self.now.terms)
+            (points_of_row (2 ^ F.bits_of f.now) x)) }
     {
         for y in 0..1u32 << f.bits() {
             let point = Point {
@@ -60,7 +65,8 @@ impl Curve {
     /// All points of the curve, by rising x, then rising y.
     pub fn all_points<F: Field>(&self, alloc: Global, f: &F) -> Result<Vec<Point>, AllocError>
         requires { F.bits_of f.now ≡ self.now.bits }
-        ensures { IfOk result (λ points. points.items ≡ curve_points (F.bits_of f.now) (F.modulus_of f.now) self.now.terms) }
+        ensures { IfOk result (λ points. points.items
+            ≡ curve_points (F.bits_of f.now) (F.modulus_of f.now) self.now.terms) }
     {
         let mut points = Vec::new(alloc);
         for x in 0..1u32 << f.bits() {

@@ -31,7 +31,8 @@ fn power<F: Field>(f: &F, x: u8, k: u32) -> u8
 pub fn monomial<F: Field>(f: &F, i: u32, j: u32, p: &Point) -> u8
     requires x { p.now.x < 2 ^ F.bits_of f.now }
     requires y { p.now.y < 2 ^ F.bits_of f.now }
-    ensures value { result ≡ monomial (gf_mul (F.bits_of f.now) (F.modulus_of f.now)) i j p.now.x p.now.y }
+    ensures value { result
+        ≡ monomial (gf_mul (F.bits_of f.now) (F.modulus_of f.now)) i j p.now.x p.now.y }
     ensures symbol { result < 2 ^ F.bits_of f.now }
 {
     f.mul(power(f, p.x, i), power(f, p.y, j))

@@ -51,7 +51,8 @@ impl Relation {
         ensures { (w : ℕ) → slice_index sums.new w
             ≡ bit_xor (slice_index sums.old w) (gf_mul (F.bits_of f.now) (F.modulus_of f.now) c
             (weight_coefficient self.now.semi.a self.now.semi.b
-            (y_times_monomial (gf_mul (F.bits_of f.now) (F.modulus_of f.now)) self.now.semi.a self.now.terms.items i j) w)) }
+            (y_times_monomial (gf_mul (F.bits_of f.now) (F.modulus_of f.now)) self.now.semi.a
+            self.now.terms.items i j) w)) }
     {
         let Semi { a, b, .. } = self.semi;
         if j + 1 < a {
@@ -67,13 +68,15 @@ impl Relation {
     fn add_y_times_all<F: Field>(&self, f: &F, combination: &[u8], sums: &mut [u8])
         requires symbols { All (λ t. t.c < 2 ^ F.bits_of f.now) self.now.terms.items }
         requires combination { All (λ c. c < 2 ^ F.bits_of f.now) combination.now }
-        requires members { (w : ℕ) → is_member self.now.semi.a self.now.semi.b w ≡ false → slice_index combination.now w ≡ 0 }
+        requires members { (w : ℕ) → is_member self.now.semi.a self.now.semi.b w ≡ false →
+            slice_index combination.now w ≡ 0 }
         requires some { 0 < length combination.now }
         requires room { length sums.old ≡ length combination.now + self.now.semi.b }
         requires few { length sums.old ≤ 65536 }
         requires empty { (w : ℕ) → slice_index sums.old w ≡ 0 }
         ensures { (w : ℕ) → slice_index sums.new w
-            ≡ times_y_by_weights (gf_mul (F.bits_of f.now) (F.modulus_of f.now)) self.now.semi.a self.now.semi.b self.now.terms.items
+            ≡ times_y_by_weights (gf_mul (F.bits_of f.now) (F.modulus_of f.now))
+            self.now.semi.a self.now.semi.b self.now.terms.items
             (length combination.now - 1) (slice_index combination.now) w }
     {
         for weight in 0..combination.len() {
@@ -88,7 +91,8 @@ impl Curve {
     // What y^a is on the curve.
     fn relation<F: Field>(&self, alloc: Global, f: &F) -> Result<Relation, AllocError>
         requires { F.bits_of f.now ≡ self.now.bits }
-        ensures { IfOk result (λ r. IsRelationOf self.now (F.modulus_of f.now) r.semi.a r.semi.b r.terms.items) }
+        ensures { IfOk result (λ r.
+            IsRelationOf self.now (F.modulus_of f.now) r.semi.a r.semi.b r.terms.items) }
     {
         let a = self.a();
         let Some(semi) = Semi::new(a, self.b()) else {

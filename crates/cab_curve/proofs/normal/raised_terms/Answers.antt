@@ -1,5 +1,4 @@
-use Rattle.std.proofs.Common.{◌≡◌, ℕ, Vec, Global, sym, ◌∙◌, ap, refl}
-use Rattle.cab_curve.specs.declared.normal.NormTerm.{NormTerm}
+use Rattle.std.proofs.Common.{refl}
 use Rattle.cab_curve.proofs.NormalLists.{raised_zero, raised_term}
 use Rattle.cab_curve.proofs.normal.raised_terms.Goals.{then-c-ne0+in_ok-push, else-c-ne0}
 use Rattle.cab_curve.proofs.normal.raised_terms.Goals as goal

@@ -1,6 +1,5 @@
-use Rattle.std.proofs.Common.{◌≡◌, ℕ, ◌*◌, ap, sym, subst}
+use Rattle.std.proofs.Common.{ℕ, subst}
 use Rattle.gf_theory.specs.Field.{IsModulus}
-use Rattle.cab_curve.specs.NormalForms.{IsRaised}
 use Rattle.cab_curve.proofs.NormalLists.{normal_result}
 use Rattle.cab_curve.proofs.equation.Curve.normal.Goals as goal
 

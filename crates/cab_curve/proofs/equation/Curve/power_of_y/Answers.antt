@@ -1,7 +1,6 @@
-use Rattle.std.proofs.Common.{◌≡◌, ℕ, ◌<◌, ◌≤◌, ◌^◌, ◌+◌, length, get_or, sym, ◌∙◌, ap, subst, arith}
+use Rattle.std.proofs.Common.{◌≡◌, ℕ, ◌+◌, length, ◌∙◌, ap, subst, arith}
 use Rattle.std.proofs.lemmas.List.{get_or_default, length-replicate}
 use Rattle.gf_theory.specs.Field.{IsModulus}
-use Rattle.cab_curve.specs.Relation.{HasPowerOfY}
 use Rattle.cab_curve.proofs.Relations.{power_zero, power_more, symbols_of, written_back}
 use Rattle.cab_curve.proofs.equation.Curve.power_of_y.Goals as goal
 

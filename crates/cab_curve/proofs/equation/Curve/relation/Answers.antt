@@ -1,9 +1,6 @@
-use Rattle.std.proofs.Common.{◌≡◌, ℕ, ◌<◌, ◌≤◌, ◌^◌, ◌++◌, ◌∷◌, [], List, length, drop, Vec, Global, sym, ◌∙◌, ap, subst, arith}
-use Rattle.std.specs.List.{All}
-use Rattle.gf_theory.specs.Field.{IsModulus, gf_mul}
+use Rattle.std.proofs.Common.{ℕ, Vec, Global, sym, ◌∙◌, ap, subst}
+use Rattle.gf_theory.specs.Field.{IsModulus}
 use Rattle.curve_theory.specs.declared.Term.{Term}
-use Rattle.curve_theory.specs.Curve.{coefficient}
-use Rattle.curve_theory.specs.Normal.{relation}
 use Rattle.cab_curve.proofs.Calls.{lead-symbol}
 use Rattle.cab_curve.proofs.Relations.{scaled_skip, scaled_push, relation_of, weights_of}
 use Rattle.cab_curve.proofs.equation.Curve.relation.Goals.{then-not-has_exponents+in_ok-push, else-not-has_exponents}

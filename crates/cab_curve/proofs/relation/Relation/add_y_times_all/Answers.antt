@@ -1,4 +1,4 @@
-use Rattle.std.proofs.Common.{◌≡◌, ℕ, ◌+◌, ◌-◌, ◌<◌, ◌≤◌, List, length, get_or, suc, sym, ◌∙◌, ap, arith}
+use Rattle.std.proofs.Common.{◌≡◌, ℕ, ◌-◌, List, length, get_or, suc, sym, ◌∙◌, ap, arith}
 use Rattle.field_theory.specs.Sums.{xor_sum}
 use Rattle.gf_theory.specs.Field.{gf_mul}
 use Rattle.curve_theory.specs.Normal.{weight_coefficient}
