@@ -4,4 +4,5 @@ use Rattle.command_words.specs.declared.words.Words.{Words}
 use Rattle.command_words.specs.Lines.{IsCommandLine}
 
 abbrev pub CommandLinesAreRead : Type 0
-CommandLinesAreRead = (texts : List (List ℕ)) (v w : Words) → IsCommandLine texts v → IsCommandLine texts w → v ≡ w
+CommandLinesAreRead =
+    (texts : List (List ℕ)) (v w : Words) → IsCommandLine texts v → IsCommandLine texts w → v ≡ w

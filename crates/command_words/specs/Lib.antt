@@ -1,4 +1,5 @@
 pub mod Numerals
+pub mod Built
 pub mod Options
 pub mod Reading
 pub mod Lines

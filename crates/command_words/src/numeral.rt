@@ -6,7 +6,8 @@ ghost use Rattle.command_words.specs.Options.{number_in};
 /// The number that one to twenty ASCII digits write, where it is from `least` to `greatest`.
 pub fn read_numeral(least: u64, greatest: u64, text: &[u8]) -> Option<u64>
     ensures value { result ≡ number_in least greatest text.now }
-    ensures within { IfSome result (λ v. v ≤ greatest) }
+    ensures least { IfSome result (λ v. least ≤ v) }
+    ensures most { IfSome result (λ v. v ≤ greatest) }
 {
     if text.is_empty() || text.len() > 20 {
         return None;

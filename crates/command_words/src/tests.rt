@@ -1,4 +1,8 @@
+use crate::numeral::read_numeral;
+use crate::options::{command_named, flag_named, has_flag, has_option, option_named};
+use crate::words::{FlagName, MOST_WANTED, OptionName};
 use crate::{Command, Words, read_words};
+use ag_pool::Workers;
 use std::alloc::{AllocError, Global};
 use std::test::Fail;
 
@@ -17,7 +21,9 @@ fn commands_without_options(rt: HostRuntime) -> Result<(), Fail> {
         command: Command::Member,
         seed: 1,
         bytes: 1000,
-        workers: 1,
+        workers: Workers::ONE,
+        salvage: false,
+        want: 1,
     };
     assert_eq!(rt; read(alloc, "member D")?, Some(expected));
     // an empty path is a path
@@ -43,7 +49,9 @@ fn options_of_a_trial(rt: HostRuntime) -> Result<(), Fail> {
         command: Command::Trial,
         seed: 7,
         bytes: 65536,
-        workers: 1,
+        workers: Workers::ONE,
+        salvage: false,
+        want: 1,
     };
     for line in [
         "trial --seed 7 --bytes 65536 D",
@@ -73,10 +81,59 @@ fn options_of_a_trial(rt: HostRuntime) -> Result<(), Fail> {
 #[test]
 fn workers_of_a_decoding(rt: HostRuntime) -> Result<(), Fail> {
     let alloc = rt.alloc();
-    let words = read(alloc, "decode --workers 64 D")?.ok_or("accepted")?;
-    assert_eq!(rt; words.workers, 64);
-    assert_eq!(rt; read(alloc, "decode --workers 65 D")?, None);
-    assert_eq!(rt; read(alloc, "decode --workers 0 D")?, None);
-    assert_eq!(rt; read(alloc, "encode --workers 2 D")?, None);
+    for (line, count) in [
+        ("decode D", 1),
+        ("decode --workers 64 D", 64),
+        ("decode --workers=064 D", 64),
+    ] {
+        let words = read(alloc, line)?.ok_or("accepted")?;
+        assert_eq!(rt; words.workers.count(), count, "{line}");
+    }
+    for line in [
+        "decode --workers 65 D",
+        "decode --workers 0 D",
+        "decode --workers 2 --workers 2 D",
+        "encode --workers 2 D",
+    ] {
+        assert_eq!(rt; read(alloc, line)?, None, "{line}");
+    }
+    Ok(())
+}
+
+#[test]
+fn what_is_not_built_is_refused(rt: HostRuntime) -> Result<(), Fail> {
+    let alloc = rt.alloc();
+    for line in [
+        "erase D",
+        "design D",
+        "design --want 2 D",
+        "decode --salvage D",
+        "decode --salvage --workers 2 D",
+        "decode --workers 2 --salvage D",
+        "decode --salvage=1 D",
+        "decode --salvage --salvage D",
+        "decode --workers --salvage D",
+        "encode --salvage D",
+    ] {
+        assert_eq!(rt; read(alloc, line)?, None, "{line}");
+    }
+    Ok(())
+}
+
+#[test]
+fn the_grammar_of_what_is_not_built(rt: HostRuntime) -> Result<(), Fail> {
+    assert_eq!(rt; command_named("erase"), Some(Command::Erase));
+    assert_eq!(rt; command_named("design"), Some(Command::Design));
+    assert_eq!(rt; option_named("--want"), Some(OptionName::Want));
+    assert!(rt; has_option(Command::Design, OptionName::Want));
+    assert!(rt; !has_option(Command::Trial, OptionName::Want));
+    assert_eq!(rt; flag_named("--salvage"), Some(FlagName::Salvage));
+    assert_eq!(rt; flag_named("--salvage=1"), None);
+    assert_eq!(rt; option_named("--salvage"), None);
+    assert!(rt; has_flag(Command::Decode, FlagName::Salvage));
+    assert!(rt; !has_flag(Command::Encode, FlagName::Salvage));
+    let most = u64::from(MOST_WANTED);
+    assert_eq!(rt; read_numeral(0, most, b"0511"), Some(511));
+    assert_eq!(rt; read_numeral(0, most, b"512"), None);
     Ok(())
 }
