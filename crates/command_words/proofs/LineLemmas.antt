@@ -9,13 +9,10 @@ use Rattle.std.proofs.lemmas.Bool.{cases_Bool}
 use Rattle.command_words.specs.declared.words.Command.{Command}
 use Rattle.command_words.specs.declared.words.OptionName.{OptionName}
 use Rattle.command_words.specs.declared.words.Settings.{Settings}
-use Rattle.command_words.specs.declared.words.OptionName.TheVariants.{Seed, Bytes, Workers, Want}
 use Rattle.command_words.specs.declared.words.FlagName.{FlagName}
-use Rattle.command_words.specs.declared.words.FlagName.TheVariants.{Salvage}
 use Rattle.command_words.specs.declared.words.Words.{Words}
-use Rattle.std.specs.Option.{unwrap_or}
 use Rattle.command_words.specs.Built.{is_built, is_option_built, is_flag_built}
-use Rattle.command_words.specs.Options.{command_word, option_word, flag_word, has_option, has_flag, default_of, no_settings, setting_of, with_setting, least_of, greatest_of, flag_of, with_flag}
+use Rattle.command_words.specs.Options.{command_word, option_word, flag_word, has_option, has_flag, no_settings, setting_of, with_setting, least_of, greatest_of, flag_of, with_flag}
 use Rattle.command_words.specs.Laws.{CommandLinesAreRead}
 use Rattle.command_words.specs.Reading.{command_named, flag_named, has_equals, is_flag_word, name_part, value_part, added, flagged, flagged_by, settings_in, words_of, is_path}
 use Rattle.command_words.specs.Lines.{IsSetting, AreSettings, none, more, flag, IsCommandLine, IsPath}
