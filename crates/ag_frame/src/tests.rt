@@ -8,6 +8,7 @@ const SINGLE: Layout = Layout {
     k: 3,
     bits: 2,
     depth: 1,
+    packed: false,
 };
 
 const PAIR: Layout = Layout {
@@ -15,6 +16,7 @@ const PAIR: Layout = Layout {
     k: 3,
     bits: 2,
     depth: 2,
+    packed: false,
 };
 
 #[test]
