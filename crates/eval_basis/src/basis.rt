@@ -34,12 +34,12 @@ impl<F: Field> Model for EvalBasis<F> {
     ghost Value = { Basis };
 
     ghost view = { λ s. basis_with (F.bits_of s.field) (F.modulus_of s.field) s.n s.count
-        s.ranks.items
-        s.labels.items s.vectors.items s.duals.items s.pair_counts.items s.sums.items s.leads.items };
+        s.ranks.items s.labels.items s.vectors.items s.duals.items s.pair_counts.items
+        s.sums.items s.leads.items };
 
     ghost invariant = { λ s. IsStored (F.bits_of s.field) (F.modulus_of s.field) s.n s.count
-        s.ranks.items
-        s.labels.items s.vectors.items s.duals.items s.pair_counts.items s.sums.items s.leads.items };
+        s.ranks.items s.labels.items s.vectors.items s.duals.items s.pair_counts.items
+        s.sums.items s.leads.items };
 }
 
 impl<F: Field> EvalBasis<F> {
