@@ -35,16 +35,13 @@ struct Poll {
 
 /// What the pair (i, j) says of member k: nothing, where it has another sum or is no candidate.
 fn pair_vote<F: Field>(
-    f: &F,
-    basis: &EvalBasis,
+    basis: &EvalBasis<F>,
     work: &[u8],
     k: u32,
     i: u32,
     j: u32,
     sheet: &mut Sheet,
 ) -> Option<u8>
-    requires bits { F.bits_of f.now ≡ basis.now.bits }
-    requires modulus { F.modulus_of f.now ≡ basis.now.modulus }
     requires word { IsWord basis.now.bits basis.now.n work.now }
     requires member { k < basis.now.n }
     requires row { i < basis.now.n }
@@ -53,6 +50,7 @@ fn pair_vote<F: Field>(
     ensures vote { PairVotes basis.now work.now k i j result }
     ensures sheet { IsSheetOf basis.now work.now sheet.new }
 {
+    let f = basis.field();
     if basis.sum_at(i, j) != basis.rank_at(k) {
         return None;
     }
@@ -61,33 +59,31 @@ fn pair_vote<F: Field>(
     }
     let kept = part_residue(f, &sheet.table, i, j, &mut sheet.room);
     let entry = sheet.table.row(i)[j as usize];
-    let known = syndrome(f, basis, work, k);
+    let known = syndrome(basis, work, k);
     let inverse = f.inv(basis.lead(i, j));
     Some(f.add(f.mul(inverse, f.add(kept, entry)), known))
 }
 
 /// Counts the votes of row i on member k.
 fn poll_row<F: Field>(
-    f: &F,
-    basis: &EvalBasis,
+    basis: &EvalBasis<F>,
     work: &[u8],
     k: u32,
     i: u32,
     sheet: &mut Sheet,
     poll: &mut Poll,
 )
-    requires bits { F.bits_of f.now ≡ basis.now.bits }
-    requires modulus { F.modulus_of f.now ≡ basis.now.modulus }
     requires word { IsWord basis.now.bits basis.now.n work.now }
     requires member { k < basis.now.n }
     requires row { i < basis.now.n }
     requires sheet { IsSheetOf basis.now work.now sheet.old }
     requires so_far { IsPolled basis.now work.now k poll.old.tally.items poll.old.candidates i 0 }
-    ensures polled { IsPolled basis.now work.now k poll.new.tally.items poll.new.candidates (i + 1) 0 }
+    ensures polled { IsPolled basis.now work.now k poll.new.tally.items poll.new.candidates (i + 1)
+        0 }
     ensures sheet { IsSheetOf basis.now work.now sheet.new }
 {
     for j in 0..basis.n() {
-        if let Some(v) = pair_vote(f, basis, work, k, i, j, sheet) {
+        if let Some(v) = pair_vote(basis, work, k, i, j, sheet) {
             poll.tally[v as usize] += 1;
             poll.candidates += 1;
         }
@@ -111,24 +107,22 @@ fn first_most(tally: &[u32]) -> usize
 /// The votes on member k.
 fn poll_of<F: Field>(
     alloc: Global,
-    f: &F,
-    basis: &EvalBasis,
+    basis: &EvalBasis<F>,
     work: &[u8],
     k: u32,
 ) -> Result<Poll, AllocError>
-    requires bits { F.bits_of f.now ≡ basis.now.bits }
-    requires modulus { F.modulus_of f.now ≡ basis.now.modulus }
     requires word { IsWord basis.now.bits basis.now.n work.now }
     requires member { k < basis.now.n }
-    ensures { IfOk result (λ poll. IsPolled basis.now work.now k poll.tally.items poll.candidates basis.now.n 0) }
+    ensures { IfOk result (λ poll. IsPolled basis.now work.now k poll.tally.items poll.candidates
+        basis.now.n 0) }
 {
-    let mut sheet = sheet_of(alloc, f, basis, work)?;
+    let mut sheet = sheet_of(alloc, basis, work)?;
     let mut poll = Poll {
-        tally: vec![in alloc; 0; 1usize << f.bits()]?,
+        tally: vec![in alloc; 0; 1usize << basis.field().bits()]?,
         candidates: 0,
     };
     for i in 0..basis.n() {
-        poll_row(f, basis, work, k, i, &mut sheet, &mut poll);
+        poll_row(basis, work, k, i, &mut sheet, &mut poll);
     }
     Ok(poll)
 }
@@ -136,20 +130,22 @@ fn poll_of<F: Field>(
 /// The vote on member k.
 pub fn elect<F: Field>(
     alloc: Global,
-    f: &F,
-    basis: &EvalBasis,
+    basis: &EvalBasis<F>,
     work: &[u8],
     k: u32,
 ) -> Result<Election, AllocError>
-    requires bits { F.bits_of f.now ≡ basis.now.bits }
-    requires modulus { F.modulus_of f.now ≡ basis.now.modulus }
     requires word { IsWord basis.now.bits basis.now.n work.now }
     requires member { k < basis.now.n }
-    ensures elected { IfOk result (λ vote. IsElected (times basis.now) basis.now work.now k vote.winner) }
-    ensures votes { IfOk result (λ vote. vote.votes ≡ votes_at (times basis.now) basis.now work.now k vote.winner) }
-    ensures candidates { IfOk result (λ vote. vote.candidates ≡ candidates_at (times basis.now) basis.now work.now k) }
+    ensures elected { IfOk result (λ vote. IsElected (times basis.now) basis.now work.now k
+        vote.winner) }
+    ensures votes { IfOk result (λ vote. vote.votes
+        ≡ votes_at (times basis.now) basis.now work.now k vote.winner) }
+    ensures candidates { IfOk result (λ vote. vote.candidates
+        ≡ candidates_at (times basis.now) basis.now work.now k) }
 {
-    let poll = poll_of(alloc, f, basis, work, k)?;
+    // the basis is sound, so a symbol has at most eight bits
+    basis.n();
+    let poll = poll_of(alloc, basis, work, k)?;
     let winner = first_most(&poll.tally);
     Ok(Election {
         winner: winner as u8,

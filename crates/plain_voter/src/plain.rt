@@ -23,21 +23,18 @@ pub struct PlainFind {
 /// there is no such error.
 pub fn find_plainly<F: Field>(
     alloc: Global,
-    f: &F,
-    basis: &EvalBasis,
+    basis: &EvalBasis<F>,
     checked: &Checked,
     t: u32,
     got: &[u8],
 ) -> Result<Option<PlainFind>, AllocError>
-    requires bits { F.bits_of f.now ≡ basis.now.bits }
-    requires modulus { F.modulus_of f.now ≡ basis.now.modulus }
     requires marks { length checked.now ≡ basis.now.n }
     requires bound { IsBound basis.now checked.now (2 * t + 1) }
     requires received { length got.now ≡ basis.now.n }
     ensures { IfOk result (IsAnswer basis.now checked.now t (low_bits basis.now.bits got.now)) }
 {
     let mut work = low_symbols(alloc, basis.bits(), got)?;
-    let lines = vote_on_all(alloc, f, basis, checked, &mut work)?;
+    let lines = vote_on_all(alloc, basis, checked, &mut work)?;
     if weight_of(&work) > t as usize {
         return Ok(None);
     }

@@ -21,17 +21,15 @@ pub struct Sheet {
 /// Row i of the matrix of the working list.
 fn entries_of<F: Field>(
     alloc: Global,
-    f: &F,
-    basis: &EvalBasis,
+    basis: &EvalBasis<F>,
     work: &[u8],
     i: u32,
 ) -> Result<Vec<u8>, AllocError>
-    requires bits { F.bits_of f.now ≡ basis.now.bits }
-    requires modulus { F.modulus_of f.now ≡ basis.now.modulus }
     requires word { IsWord basis.now.bits basis.now.n work.now }
     requires row { i < basis.now.n }
     ensures { IfOk result (λ row. AreEntries basis.now work.now i row.items basis.now.n) }
 {
+    let f = basis.field();
     let weighed = products(alloc, f, work, basis.vector(i))?;
     let mut row = Vec::new(alloc);
     for j in 0..basis.n() {
@@ -44,12 +42,9 @@ fn entries_of<F: Field>(
 /// vector j. The room beside it is as large.
 pub fn sheet_of<F: Field>(
     alloc: Global,
-    f: &F,
-    basis: &EvalBasis,
+    basis: &EvalBasis<F>,
     work: &[u8],
 ) -> Result<Sheet, AllocError>
-    requires bits { F.bits_of f.now ≡ basis.now.bits }
-    requires modulus { F.modulus_of f.now ≡ basis.now.modulus }
     requires word { IsWord basis.now.bits basis.now.n work.now }
     ensures { IfOk result (IsSheetOf basis.now work.now) }
 {
@@ -57,7 +52,7 @@ pub fn sheet_of<F: Field>(
     let room = Matrix::new(alloc, n, n)?;
     let mut table = Matrix::new(alloc, n, n)?;
     for i in 0..n {
-        let row = entries_of(alloc, f, basis, work, i)?;
+        let row = entries_of(alloc, basis, work, i)?;
         table.set_row(i, &row);
     }
     Ok(Sheet { table, room })
@@ -69,7 +64,8 @@ pub fn is_candidate<F: Field>(f: &F, i: u32, j: u32, sheet: &mut Sheet) -> bool
     requires row { i < length sheet.old.table.rows }
     requires column { j < sheet.old.table.cols }
     requires sheet { IsSheet (F.bits_of f.now) sheet.old }
-    ensures value { result ≡ candidate (table_rank (F.bits_of f.now) (F.modulus_of f.now) sheet.old.table) i j }
+    ensures value { result ≡ candidate (table_rank (F.bits_of f.now) (F.modulus_of f.now)
+        sheet.old.table) i j }
     ensures same { sheet.new.table ≡ sheet.old.table }
     ensures sheet { IsSheet (F.bits_of f.now) sheet.new }
 {

@@ -14,20 +14,17 @@ use std::alloc::{AllocError, Global};
 /// Votes on member k: the working list takes on the syndrome that wins.
 fn turn<F: Field>(
     alloc: Global,
-    f: &F,
-    basis: &EvalBasis,
+    basis: &EvalBasis<F>,
     k: u32,
     work: &mut [u8],
 ) -> Result<PlainLine, AllocError>
-    requires bits { F.bits_of f.now ≡ basis.now.bits }
-    requires modulus { F.modulus_of f.now ≡ basis.now.modulus }
     requires word { IsWord basis.now.bits basis.now.n work.old }
     requires member { k < basis.now.n }
     ensures turn { IfOk result (IsTurn basis.now work.old k work.new) }
     ensures word { IsWord basis.now.bits basis.now.n work.new }
 {
-    let vote = elect(alloc, f, basis, work, k)?;
-    take_on(f, basis, k, vote.winner, work);
+    let vote = elect(alloc, basis, work, k)?;
+    take_on(basis, k, vote.winner, work);
     Ok(PlainLine {
         label: basis.label(k),
         pairs: basis.pairs(k),
@@ -39,21 +36,19 @@ fn turn<F: Field>(
 /// Votes on each unchecked member in its order; there is a line for each.
 pub fn vote_on_all<F: Field>(
     alloc: Global,
-    f: &F,
-    basis: &EvalBasis,
+    basis: &EvalBasis<F>,
     checked: &Checked,
     work: &mut [u8],
 ) -> Result<Vec<PlainLine>, AllocError>
-    requires bits { F.bits_of f.now ≡ basis.now.bits }
-    requires modulus { F.modulus_of f.now ≡ basis.now.modulus }
     requires marks { length checked.now ≡ basis.now.n }
     requires word { IsWord basis.now.bits basis.now.n work.old }
-    ensures found { IfOk result (λ lines. Recovers basis.now checked.now work.old work.new lines.items) }
+    ensures found { IfOk result (λ lines. Recovers basis.now checked.now work.old work.new
+        lines.items) }
 {
     let mut lines = Vec::new(alloc);
     for k in 0..basis.n() {
         if !checked.holds(k) {
-            lines.push(turn(alloc, f, basis, k, work)?)?;
+            lines.push(turn(alloc, basis, k, work)?)?;
         }
     }
     Ok(lines)

@@ -37,7 +37,9 @@ pub fn products<F: Field>(alloc: Global, f: &F, x: &[u8], y: &[u8]) -> Result<Ve
     requires left { All (λ a. a < 2 ^ F.bits_of f.now) x.now }
     requires right { All (λ a. a < 2 ^ F.bits_of f.now) y.now }
     ensures long { IfOk result (λ v. length v.items ≡ length x.now) }
-    ensures value { IfOk result (λ v. (p : ℕ) → p < length x.now → slice_index v.items p ≡ gf_mul (F.bits_of f.now) (F.modulus_of f.now) (slice_index x.now p) (slice_index y.now p)) }
+    ensures value { IfOk result (λ v. (p : ℕ) → p < length x.now →
+        slice_index v.items p ≡ gf_mul (F.bits_of f.now) (F.modulus_of f.now)
+        (slice_index x.now p) (slice_index y.now p)) }
     ensures symbols { IfOk result (λ v. All (λ a. a < 2 ^ F.bits_of f.now) v.items) }
 {
     let mut list = vec![in alloc; 0; x.len()]?;
@@ -48,28 +50,25 @@ pub fn products<F: Field>(alloc: Global, f: &F, x: &[u8], y: &[u8]) -> Result<Ve
 }
 
 /// The product of `list` and the vector of member k.
-pub fn syndrome<F: Field>(f: &F, basis: &EvalBasis, list: &[u8], k: u32) -> u8
-    requires bits { F.bits_of f.now ≡ basis.now.bits }
-    requires modulus { F.modulus_of f.now ≡ basis.now.modulus }
+pub fn syndrome<F: Field>(basis: &EvalBasis<F>, list: &[u8], k: u32) -> u8
     requires word { IsWord basis.now.bits basis.now.n list.now }
     requires member { k < basis.now.n }
     ensures value { result ≡ syndrome_of (times basis.now) basis.now list.now k }
     ensures symbol { result < 2 ^ basis.now.bits }
 {
-    dot(f, list, basis.vector(k))
+    dot(basis.field(), list, basis.vector(k))
 }
 
 /// Gives the working list the syndrome v at member k.
-pub fn take_on<F: Field>(f: &F, basis: &EvalBasis, k: u32, v: u8, work: &mut [u8])
-    requires bits { F.bits_of f.now ≡ basis.now.bits }
-    requires modulus { F.modulus_of f.now ≡ basis.now.modulus }
+pub fn take_on<F: Field>(basis: &EvalBasis<F>, k: u32, v: u8, work: &mut [u8])
     requires word { IsWord basis.now.bits basis.now.n work.old }
     requires member { k < basis.now.n }
     requires symbol { v < 2 ^ basis.now.bits }
     ensures moved { IsMoved (times basis.now) basis.now work.old k v work.new }
     ensures word { IsWord basis.now.bits basis.now.n work.new }
 {
-    let before = syndrome(f, basis, work, k);
+    let f = basis.field();
+    let before = syndrome(basis, work, k);
     let factor = f.add(v, before);
     add_scaled(f, work, factor, basis.dual(k));
 }

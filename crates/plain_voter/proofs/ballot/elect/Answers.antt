@@ -1,4 +1,6 @@
-use Rattle.std.proofs.Common.{ℕ, ◌∙◌, List, length, sym, subst}
+use Rattle.std.proofs.Common.{ℕ, ◌≡◌, ◌<◌, ◌≤◌, ◌^◌, ◌∙◌, List, length, sym, ap, subst, arith}
+use Rattle.std.proofs.Math.Facts.{Fits-of_lt}
+use Rattle.std.proofs.Math.Pow.{pow_mono}
 use Rattle.std.specs.List.{IsFirstMaxByKey}
 use Rattle.std.proofs.lemmas.List.{get_or_default}
 use Rattle.plain_voter.proofs.Counts.{elected, all_counted}
@@ -21,3 +23,11 @@ returns-clause-votes g c =
 
 pub returns-clause-candidates : goal.returns-clause-candidates
 returns-clause-candidates g c = all_counted c.args.basis.now c.args.work.now c.args.k c.in_ok-poll.poll.tally.items c.in_ok-poll.poll.candidates c.in_ok-poll.ensures
+
+pub overflow_cast-result : goal.overflow_cast-result
+overflow_cast-result g c =
+    let small : 2 ^ c.args.basis.now.bits ≤ 2 ^ 8 = pow_mono c.n.ensures.sound.modulus.at_most_eight in
+    let long : length c.deref.result.now ≡ 2 ^ c.args.basis.now.bits = ap length c.deref.ensures.value ∙ c.in_ok-poll.ensures.long in
+    let low : c.first_most-winner.result < length c.deref.result.now = c.first_most-winner.ensures.0 in
+    let lt : c.first_most-winner.result < 2 ^ 8 = omega arith in
+    Fits-of_lt lt
