@@ -63,8 +63,10 @@ fn is_good_label(
     requires marks { length entries.now.marks.items ≡ length indices.now }
     requires functions { length functions.now.pairs.items ≡ length functions.now.labels.items }
     ensures { MatchBool result
-        (IsLabelBy functions.now rule entries.now.labels.items entries.now.pairs.items entries.now.marks.items indices.now k)
-        (IsLabelBy functions.now rule entries.now.labels.items entries.now.pairs.items entries.now.marks.items indices.now k → ⊥) }
+        (IsLabelBy functions.now rule entries.now.labels.items entries.now.pairs.items
+        entries.now.marks.items indices.now k)
+        (IsLabelBy functions.now rule entries.now.labels.items entries.now.pairs.items
+        entries.now.marks.items indices.now k → ⊥) }
 {
     let index = indices[k] as usize;
     if index >= functions.labels.len() {
@@ -92,8 +94,10 @@ pub fn first_bad_label(
     requires marks { length entries.now.marks.items ≡ length indices.now }
     requires functions { length functions.now.pairs.items ≡ length functions.now.labels.items }
     ensures { MatchOption result
-        (AreGood (length indices.now) (IsLabelBy functions.now rule entries.now.labels.items entries.now.pairs.items entries.now.marks.items indices.now))
-        (IsFirstBad (length indices.now) (IsLabelBy functions.now rule entries.now.labels.items entries.now.pairs.items entries.now.marks.items indices.now)) }
+        (AreGood (length indices.now) (IsLabelBy functions.now rule entries.now.labels.items
+        entries.now.pairs.items entries.now.marks.items indices.now))
+        (IsFirstBad (length indices.now) (IsLabelBy functions.now rule entries.now.labels.items
+        entries.now.pairs.items entries.now.marks.items indices.now)) }
 {
     for k in 0..indices.len() {
         if !is_good_label(functions, rule, entries, indices, k) {
@@ -110,7 +114,8 @@ fn product<F: Field>(f: &F, n: usize, values: &[u8], duals: &[u8], k: usize, i: 
     requires list { k * n + n ≤ length duals.now }
     requires values { All (λ x. x < 2 ^ F.bits_of f.now) values.now }
     requires duals { All (λ x. x < 2 ^ F.bits_of f.now) duals.now }
-    ensures { result ≡ product_of (F.bits_of f.now) (F.modulus_of f.now) n values.now duals.now k i }
+    ensures { result ≡ product_of (F.bits_of f.now) (F.modulus_of f.now) n values.now duals.now k
+        i }
 {
     let list = k * n;
     let row = i * n;
@@ -147,13 +152,16 @@ fn vanishes_before<F: Field>(
 fn vanishes_later<F: Field>(f: &F, values: &[u8], duals: &[u8], indices: &[u32], k: usize) -> bool
     requires few { length indices.now ≤ 1024 }
     requires line { k < length indices.now }
-    requires rows { (j : ℕ) → j < length indices.now → slice_index indices.now j * length indices.now + length indices.now ≤ length values.now }
+    requires rows { (j : ℕ) → j < length indices.now →
+        slice_index indices.now j * length indices.now + length indices.now ≤ length values.now }
     requires lists { length duals.now ≡ length indices.now * length indices.now }
     requires values { All (λ x. x < 2 ^ F.bits_of f.now) values.now }
     requires duals { All (λ x. x < 2 ^ F.bits_of f.now) duals.now }
     ensures { MatchBool result
-        (VanishesLater (F.bits_of f.now) (F.modulus_of f.now) (length indices.now) values.now duals.now indices.now k)
-        (VanishesLater (F.bits_of f.now) (F.modulus_of f.now) (length indices.now) values.now duals.now indices.now k → ⊥) }
+        (VanishesLater (F.bits_of f.now) (F.modulus_of f.now) (length indices.now) values.now
+        duals.now indices.now k)
+        (VanishesLater (F.bits_of f.now) (F.modulus_of f.now) (length indices.now) values.now
+        duals.now indices.now k → ⊥) }
 {
     let n = indices.len();
     for j in k + 1..n {
@@ -168,13 +176,16 @@ fn vanishes_later<F: Field>(f: &F, values: &[u8], duals: &[u8], indices: &[u32],
 fn is_good_dual<F: Field>(f: &F, values: &[u8], duals: &[u8], indices: &[u32], k: usize) -> bool
     requires few { length indices.now ≤ 1024 }
     requires line { k < length indices.now }
-    requires rows { (j : ℕ) → j < length indices.now → slice_index indices.now j * length indices.now + length indices.now ≤ length values.now }
+    requires rows { (j : ℕ) → j < length indices.now →
+        slice_index indices.now j * length indices.now + length indices.now ≤ length values.now }
     requires lists { length duals.now ≡ length indices.now * length indices.now }
     requires values { All (λ x. x < 2 ^ F.bits_of f.now) values.now }
     requires duals { All (λ x. x < 2 ^ F.bits_of f.now) duals.now }
     ensures { MatchBool result
-        (IsDualBy (F.bits_of f.now) (F.modulus_of f.now) (length indices.now) values.now duals.now indices.now k)
-        (IsDualBy (F.bits_of f.now) (F.modulus_of f.now) (length indices.now) values.now duals.now indices.now k → ⊥) }
+        (IsDualBy (F.bits_of f.now) (F.modulus_of f.now) (length indices.now) values.now duals.now
+        indices.now k)
+        (IsDualBy (F.bits_of f.now) (F.modulus_of f.now) (length indices.now) values.now duals.now
+        indices.now k → ⊥) }
 {
     let n = indices.len();
     let index = indices[k] as usize;
@@ -190,13 +201,16 @@ fn is_good_dual<F: Field>(f: &F, values: &[u8], duals: &[u8], indices: &[u32], k
 /// The first line whose dual list has not the products that it should have.
 pub fn first_bad_dual<F: Field>(f: &F, values: &[u8], duals: &[u8], indices: &[u32]) -> Option<u32>
     requires few { length indices.now ≤ 1024 }
-    requires rows { (j : ℕ) → j < length indices.now → slice_index indices.now j * length indices.now + length indices.now ≤ length values.now }
+    requires rows { (j : ℕ) → j < length indices.now →
+        slice_index indices.now j * length indices.now + length indices.now ≤ length values.now }
     requires lists { length duals.now ≡ length indices.now * length indices.now }
     requires values { All (λ x. x < 2 ^ F.bits_of f.now) values.now }
     requires duals { All (λ x. x < 2 ^ F.bits_of f.now) duals.now }
     ensures { MatchOption result
-        (AreGood (length indices.now) (IsDualBy (F.bits_of f.now) (F.modulus_of f.now) (length indices.now) values.now duals.now indices.now))
-        (IsFirstBad (length indices.now) (IsDualBy (F.bits_of f.now) (F.modulus_of f.now) (length indices.now) values.now duals.now indices.now)) }
+        (AreGood (length indices.now) (IsDualBy (F.bits_of f.now) (F.modulus_of f.now)
+        (length indices.now) values.now duals.now indices.now))
+        (IsFirstBad (length indices.now) (IsDualBy (F.bits_of f.now) (F.modulus_of f.now)
+        (length indices.now) values.now duals.now indices.now)) }
 {
     for k in 0..indices.len() {
         if !is_good_dual(f, values, duals, indices, k) {
@@ -229,8 +243,10 @@ fn least_free(pairs: &[u64], marks: &[bool]) -> Option<u64>
 pub fn is_good_head(said: &Said) -> bool
     requires { length said.now.entries.pairs.items ≡ length said.now.entries.marks.items }
     ensures { MatchBool result
-        (IsHeadBy said.now.checked said.now.bound said.now.entries.pairs.items said.now.entries.marks.items)
-        (IsHeadBy said.now.checked said.now.bound said.now.entries.pairs.items said.now.entries.marks.items → ⊥) }
+        (IsHeadBy said.now.checked said.now.bound said.now.entries.pairs.items
+        said.now.entries.marks.items)
+        (IsHeadBy said.now.checked said.now.bound said.now.entries.pairs.items
+        said.now.entries.marks.items → ⊥) }
 {
     let checked = said.entries.marks.iter().filter(|mark| **mark).count();
     if checked as u64 != said.checked {

@@ -6,12 +6,14 @@ ghost use Rattle.order_theory.specs.Codes.{AreAllMarked, IsOrderBound};
 ghost use Rattle.order_bound.specs.Distance.{HasDistance};
 
 use eval_basis::{Checked, EvalBasis};
+use gf_field::Field;
 
-/// The least number of pairs of a member that is not checked; None exactly where all are checked. Each codeword other than
-/// zero has at least so many symbols that are not 0. No memory is taken.
-pub fn bound(basis: &EvalBasis, checked: &Checked) -> Option<u32>
+/// The least number of pairs of a member that is not checked; None exactly where all are checked. The rule that checked
+/// them may be any, also one that checks none. Each codeword other than zero has at least so many symbols that are not 0. No memory is taken.
+pub fn bound<F: Field>(basis: &EvalBasis<F>, checked: &Checked) -> Option<u32>
     requires { length checked.now ≡ basis.now.n }
-    ensures bound { MatchOption result (AreAllMarked basis.now checked.now) (IsOrderBound basis.now checked.now) }
+    ensures bound { MatchOption result (AreAllMarked basis.now checked.now)
+        (IsOrderBound basis.now checked.now) }
     ensures distance { IfSome result (HasDistance basis.now checked.now) }
 {
     let mut least = None;

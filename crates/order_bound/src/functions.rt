@@ -31,8 +31,10 @@ pub fn functions_of<D: OrderDomain>(alloc: Global, dom: &D) -> Result<Functions,
 
 #[tactic(auto, using(eval_basis::proofs::Pushing::pushing))]
 fn labels_of<D: OrderDomain>(alloc: Global, dom: &D) -> Result<Vec<u32>, AllocError>
-    ensures labels { IfOk result (λ v. IsList (D.domain dom.now).count (D.domain dom.now).label v.items) }
-    ensures fit { IfOk result (λ v. (i : ℕ) → i < (D.domain dom.now).count → (D.domain dom.now).label i < 2 ^ 32) }
+    ensures labels { IfOk result (λ v. IsList (D.domain dom.now).count (D.domain dom.now).label
+        v.items) }
+    ensures fit { IfOk result (λ v. (i : ℕ) → i < (D.domain dom.now).count →
+        (D.domain dom.now).label i < 2 ^ 32) }
 {
     let mut labels = Vec::with_capacity(alloc, dom.count() as usize)?;
     for i in 0..dom.count() {
@@ -42,7 +44,8 @@ fn labels_of<D: OrderDomain>(alloc: Global, dom: &D) -> Result<Vec<u32>, AllocEr
 }
 
 fn pair_counts_of<D: OrderDomain>(alloc: Global, dom: &D) -> Result<Vec<u32>, AllocError>
-    ensures { IfOk result (λ v. IsList (D.domain dom.now).count (pairs_of (D.domain dom.now).count (sum_or_count (D.domain dom.now))) v.items) }
+    ensures { IfOk result (λ v. IsList (D.domain dom.now).count
+        (pairs_of (D.domain dom.now).count (sum_or_count (D.domain dom.now))) v.items) }
 {
     let mut counts = vec![in alloc; 0u32; dom.count() as usize]?;
     for i in 0..dom.count() {
@@ -75,7 +78,8 @@ pub fn values_of<F: Field, D: OrderDomain>(
     requires bits { F.bits_of f.now ≡ (D.domain dom.now).bits }
     requires few { length points.now ≤ 1024 }
     requires points { ArePoints (D.domain dom.now) (F.modulus_of f.now) points.now }
-    ensures values { IfOk result (λ v. IsGrid (D.domain dom.now).count (length points.now) (value_at (D.domain dom.now) (F.modulus_of f.now) points.now) v.items) }
+    ensures values { IfOk result (λ v. IsGrid (D.domain dom.now).count (length points.now)
+        (value_at (D.domain dom.now) (F.modulus_of f.now) points.now) v.items) }
     ensures symbols { IfOk result (λ v. All (λ x. x < 2 ^ F.bits_of f.now) v.items) }
 {
     let mut values = Vec::with_capacity(alloc, dom.count() as usize * points.len())?;

@@ -104,7 +104,8 @@ fn first_space(line: &[u8]) -> Option<usize>
 /// A space and a number, where they stand at a place of a line.
 fn number_at(line: &[u8], at: usize) -> Option<Number>
     requires { at ≤ length line.now }
-    ensures { MatchOption result (HasNoNumber (drop at line.now)) (λ n. IsNumberAt line.now at n.value n.end) }
+    ensures { MatchOption result (HasNoNumber (drop at line.now))
+        (λ n. IsNumberAt line.now at n.value n.end) }
 {
     let start = after_word(line, at, b" ")?;
     let end = field_end(line, start);
@@ -129,7 +130,8 @@ fn mark_at(line: &[u8], at: usize) -> Option<(bool, usize)>
 /// Label, pairs and mark of a label line.
 fn front_of(line: &[u8]) -> Option<Front>
     ensures { MatchOption result
-        ((label pairs : ℕ) (mark : Bool) (dual : List ℕ) → label < 10 ^ 19 → pairs < 10 ^ 19 → line.now ≢ entry_body label pairs mark dual)
+        ((label pairs : ℕ) (mark : Bool) (dual : List ℕ) → label < 10 ^ 19 → pairs < 10 ^ 19 →
+        line.now ≢ entry_body label pairs mark dual)
         (λ x. IsFront line.now x.label x.pairs x.mark x.end) }
 {
     let at = after_word(line, 0, b"label")?;
@@ -194,7 +196,8 @@ fn add_entry(line: &[u8], n: usize, size: u64, entries: &mut Entries) -> Result<
 /// A name, a space and a number, where they stand at a place of a line.
 fn named_number(line: &[u8], at: usize, name: &[u8]) -> Option<Number>
     requires { at ≤ length line.now }
-    ensures { MatchOption result (HasNoNamed name.now (drop at line.now)) (λ x. IsNamedAt line.now at name.now x.value x.end) }
+    ensures { MatchOption result (HasNoNamed name.now (drop at line.now))
+        (λ x. IsNamedAt line.now at name.now x.value x.end) }
 {
     let start = after_word(line, at, name)?;
     number_at(line, start)

@@ -1,6 +1,6 @@
 //! The check of a table.
 
-ghost use Rattle.std.specs.Prelude.{◌≡◌, ◌≤◌, ◌^◌, length, IfOk, MatchResult};
+ghost use Rattle.std.specs.Prelude.{◌≡◌, ◌≤◌, ◌^◌, length, All, IfOk, IsTrue, MatchResult};
 ghost use Rattle.order_theory.specs.Basis.{Basis, IsSoundBasis};
 ghost use Rattle.order_domain.specs.Domain.{ArePoints};
 ghost use Rattle.eval_basis.specs.Built.{IsBuilt};
@@ -14,7 +14,7 @@ use crate::functions::{Functions, functions_of, values_of};
 use crate::reader::{Stop, read_table};
 use eval_basis::CheckRule;
 use gf_field::Field;
-use order_domain::{OrderDomain, Point};
+use order_domain::{OrderDomain, Point, Points};
 use std::alloc::{AllocError, Global};
 
 /// What the checks of a table say.
@@ -32,19 +32,22 @@ pub fn check_table<F: Field, D: OrderDomain>(
     alloc: Global,
     f: &F,
     dom: &D,
-    points: &[Point],
+    points: &Points,
     rule: CheckRule,
     text: &[u8],
 ) -> Result<TableSays, AllocError>
     requires bits { F.bits_of f.now ≡ (D.domain dom.now).bits }
     requires some_points { 1 ≤ length points.now }
-    requires few_points { length points.now ≤ 1024 }
-    requires points { ArePoints (D.domain dom.now) (F.modulus_of f.now) points.now }
-    ensures verdict { IfOk result (Says (D.domain dom.now) (F.modulus_of f.now) points.now rule text.now) }
-    ensures table { IfOk result (λ says. (b : Basis) → IsBuilt (D.domain dom.now) (F.modulus_of f.now) points.now b → IsSoundBasis b → SaysOfTable b (checked_by b rule) text.now says) }
+    requires on { All (λ p. IsTrue ((D.domain dom.now).on (F.modulus_of f.now) p)) points.now }
+    ensures verdict { IfOk result (Says (D.domain dom.now) (F.modulus_of f.now) points.now rule
+        text.now) }
+    ensures table { IfOk result (λ says. (b : Basis) →
+        IsBuilt (D.domain dom.now) (F.modulus_of f.now) points.now b → IsSoundBasis b →
+        SaysOfTable b (checked_by b rule) text.now says) }
 {
     let functions = functions_of(alloc, dom)?;
-    match bound_of(alloc, f, dom, points, rule, &functions, text) {
+    let places = points.as_slice();
+    match bound_of(alloc, f, dom, places, rule, &functions, text) {
         Ok(bound) => Ok(TableSays::Accepted { bound }),
         Err(Stop::Line(line)) => Ok(TableSays::Refused { line }),
         Err(Stop::NoMemory) => Err(AllocError),
@@ -67,7 +70,8 @@ fn bound_of<F: Field, D: OrderDomain>(
     requires points { ArePoints (D.domain dom.now) (F.modulus_of f.now) points.now }
     ensures { MatchResult result
         (IsAccepted (D.domain dom.now) (F.modulus_of f.now) points.now rule text.now)
-        (λ stop. OnLine stop (IsRefused (D.domain dom.now) (F.modulus_of f.now) points.now rule text.now)) }
+        (λ stop. OnLine stop (IsRefused (D.domain dom.now) (F.modulus_of f.now) points.now rule
+        text.now)) }
 {
     let said = match read_table(alloc, text, points.len() as u32, symbol_count(f)) {
         Ok(said) => said,

@@ -9,13 +9,14 @@ ghost use Rattle.order_bound.specs.TableText.{title, head_line, mark_text, entry
 use crate::distance::bound;
 use ag_texts::LineBuf;
 use eval_basis::{Checked, EvalBasis};
+use gf_field::Field;
 use std::alloc::{AllocError, Global};
 
 /// The table of a basis: its order bound, and for each member its label, its pairs, its mark and its dual list, so that
 /// `check_table` can check them without the basis. Some member is not checked.
-pub fn table_text(
+pub fn table_text<F: Field>(
     alloc: Global,
-    basis: &EvalBasis,
+    basis: &EvalBasis<F>,
     checked: &Checked,
 ) -> Result<Vec<u8>, AllocError>
     requires marks { length checked.now ≡ basis.now.n }
@@ -75,7 +76,8 @@ impl Writer {
 
     /// The symbols, a space before each.
     fn symbols(&mut self, symbols: &[u8]) -> Result<(), AllocError>
-        ensures { OnOk result (self.new.text.items ≡ self.old.text.items ++ flat_map (λ x. 32 ∷ decimal x) symbols.now) }
+        ensures { OnOk result (self.new.text.items
+            ≡ self.old.text.items ++ flat_map (λ x. 32 ∷ decimal x) symbols.now) }
     {
         for symbol in symbols {
             self.number(u64::from(*symbol))?;
@@ -85,7 +87,8 @@ impl Writer {
 
     /// The first two lines.
     fn head(&mut self, n: u32, checked: u32, least: u32) -> Result<(), AllocError>
-        ensures { OnOk result (self.new.text.items ≡ self.old.text.items ++ (title ++ head_line n checked least)) }
+        ensures { OnOk result (self.new.text.items
+            ≡ self.old.text.items ++ (title ++ head_line n checked least)) }
     {
         self.word("agcode-bound 1\nn")?;
         self.number(u64::from(n))?;
@@ -97,10 +100,16 @@ impl Writer {
     }
 
     /// The line of member k.
-    fn entry(&mut self, basis: &EvalBasis, checked: &Checked, k: u32) -> Result<(), AllocError>
+    fn entry<F: Field>(
+        &mut self,
+        basis: &EvalBasis<F>,
+        checked: &Checked,
+        k: u32,
+    ) -> Result<(), AllocError>
         requires member { k < basis.now.n }
         requires marks { length checked.now ≡ basis.now.n }
-        ensures { OnOk result (self.new.text.items ≡ self.old.text.items ++ entry_line (entry_of basis.now checked.now k)) }
+        ensures { OnOk result (self.new.text.items
+            ≡ self.old.text.items ++ entry_line (entry_of basis.now checked.now k)) }
     {
         self.word("label")?;
         self.number(u64::from(basis.label(k)))?;

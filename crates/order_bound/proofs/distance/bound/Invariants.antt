@@ -2,4 +2,4 @@ use Rattle.order_bound.proofs.Leasts.{Leasts}
 use Rattle.order_bound.proofs.distance.bound.Given as goal
 
 abbrev pub invariant-loop-k : goal.invariant-loop-k
-invariant-loop-k l = Leasts l.basis l.checked l.k l.least
+invariant-loop-k g l = Leasts l.basis l.checked l.k l.least
