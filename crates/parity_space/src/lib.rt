@@ -57,21 +57,20 @@ impl Parity {
     /// The checks of the marked members of a basis. There are as many message places as members without a mark.
     pub fn build<F: Field>(
         alloc: Global,
-        f: &F,
-        basis: &EvalBasis,
+        basis: &EvalBasis<F>,
         checked: &Checked,
     ) -> Result<Parity, AllocError>
-        requires bits { F.bits_of f.now ≡ basis.now.bits }
-        requires modulus { F.modulus_of f.now ≡ basis.now.modulus }
         requires marks { length checked.now ≡ basis.now.n }
         ensures checks { IfOk result (λ c. c ≡ checks_of basis.now checked.now) }
-        ensures code { IfOk result (λ c. (x : List ℕ) → IsInCode c x ↔ IsCodeword (times basis.now) basis.now checked.now x) }
-        ensures free { IfOk result (λ c. length (message_places c) + count_by (λ m. m) checked.now ≡ basis.now.n) }
+        ensures code { IfOk result (λ c. (x : List ℕ) → IsInCode c x
+            ↔ IsCodeword (times basis.now) basis.now checked.now x) }
+        ensures free { IfOk result (λ c. length (message_places c) + count_by (λ m. m) checked.now
+            ≡ basis.now.n) }
     {
         let n = basis.n();
         let vectors = checked_vectors(alloc, basis, checked)?;
         let mirror = mirrored(alloc, &vectors)?;
-        let reduced = echelon(alloc, f, &mirror)?;
+        let reduced = echelon(alloc, basis.field(), &mirror)?;
         let pivots = pivots_of(alloc, &reduced)?;
         let places = free_places(alloc, &reduced, &pivots)?;
         let first = first_check(&reduced, &pivots);
@@ -137,7 +136,9 @@ fn are_orthogonal<F: Field>(f: &F, rows: &Matrix, word: &[u8]) -> bool
     requires over { IsOver (F.bits_of f.now) rows.now }
     requires width { length word.now ≡ rows.now.cols }
     requires symbols { All (λ a. a < 2 ^ F.bits_of f.now) word.now }
-    ensures { IsTrue result ↔ ((i : ℕ) → i < length rows.now.rows → dot_of (gf_mul (F.bits_of f.now) (F.modulus_of f.now)) (length word.now) (slice_index word.now) (entry rows.now i) ≡ 0) }
+    ensures { IsTrue result ↔ ((i : ℕ) → i < length rows.now.rows →
+        dot_of (gf_mul (F.bits_of f.now) (F.modulus_of f.now)) (length word.now)
+        (slice_index word.now) (entry rows.now i) ≡ 0) }
 {
     for i in 0..rows.rows() {
         if dot(f, word, rows.row(i)) != 0 {
@@ -153,7 +154,9 @@ fn combine_rows<F: Field>(f: &F, factors: &[u8], rows: &Matrix, sum: &mut [u8])
     requires symbols { All (λ a. a < 2 ^ F.bits_of f.now) factors.now }
     requires over { IsOver (F.bits_of f.now) rows.now }
     requires width { length sum.old ≡ rows.now.cols }
-    ensures value { (q : ℕ) → q < length sum.old → slice_index sum.new q ≡ combine (gf_mul (F.bits_of f.now) (F.modulus_of f.now)) (length rows.now.rows) (slice_index factors.now) (entry rows.now) q }
+    ensures value { (q : ℕ) → q < length sum.old →
+        slice_index sum.new q ≡ combine (gf_mul (F.bits_of f.now) (F.modulus_of f.now))
+        (length rows.now.rows) (slice_index factors.now) (entry rows.now) q }
     ensures symbols { All (λ a. a < 2 ^ F.bits_of f.now) sum.new }
 {
     sum.fill(0);

@@ -9,19 +9,21 @@ ghost use Rattle.block_theory.specs.Marked.{chosen};
 ghost use Rattle.parity_space.specs.Forms.{IsMirrorOf, HasPivots, free_places as free_places_of, IsUnitWord};
 
 use eval_basis::{Checked, EvalBasis};
+use gf_field::Field;
 use gf_linear::Matrix;
 use std::alloc::{AllocError, Global};
 
 // A matrix whose rows are the vectors of the checked members.
-pub fn checked_vectors(
+pub fn checked_vectors<F: Field>(
     alloc: Global,
-    basis: &EvalBasis,
+    basis: &EvalBasis<F>,
     checked: &Checked,
 ) -> Result<Matrix, AllocError>
     requires { length checked.now ≡ basis.now.n }
     ensures rows { IfOk result (λ m. m.rows ≡ chosen checked.now basis.now.vectors) }
     ensures cols { IfOk result (λ m. m.cols ≡ basis.now.n) }
-    ensures words { IfOk result (λ m. (i : ℕ) → i < length m.rows → IsWord basis.now.bits basis.now.n (row_of m i)) }
+    ensures words { IfOk result (λ m. (i : ℕ) → i < length m.rows →
+        IsWord basis.now.bits basis.now.n (row_of m i)) }
 {
     let mut vectors = Matrix::new(alloc, checked.size(), basis.n())?;
     let mut next = 0;
@@ -86,7 +88,8 @@ pub fn free_places(alloc: Global, e: &Matrix, pivots: &[u32]) -> Result<Vec<u32>
 pub fn first_check(e: &Matrix, pivots: &[u32]) -> u32
     requires { HasPivots e.now pivots.now }
     ensures within { result ≤ e.now.cols }
-    ensures below { (t : ℕ) → t < length pivots.now → result ≤ e.now.cols - 1 - slice_index pivots.now t }
+    ensures below { (t : ℕ) → t < length pivots.now →
+        result ≤ e.now.cols - 1 - slice_index pivots.now t }
 {
     match pivots.last() {
         Some(j) => e.cols() - 1 - j,
@@ -99,7 +102,8 @@ fn write_unit(line: &mut [u8], e: &Matrix, pivots: &[u32], p: u32)
     requires pivots { HasPivots e.now pivots.now }
     requires width { length line.old ≡ e.now.cols }
     requires place { p < e.now.cols }
-    requires free { (t : ℕ) → t < length pivots.now → slice_index pivots.now t ≢ e.now.cols - 1 - p }
+    requires free { (t : ℕ) → t < length pivots.now →
+        slice_index pivots.now t ≢ e.now.cols - 1 - p }
     ensures word { IsUnitWord e.now pivots.now e.now.cols p line.new }
 {
     line.fill(0);
@@ -125,7 +129,8 @@ pub fn tails_of(
     ensures rows { IfOk result (λ m. length m.rows ≡ length places.now) }
     ensures cols { IfOk result (λ m. first + m.cols ≡ e.now.cols) }
     ensures each { IfOk result (λ m. (i : ℕ) → i < length places.now →
-        (word : List ℕ) × IsUnitWord e.now pivots.now e.now.cols (slice_index places.now i) word × (row_of m i ≡ drop first word)) }
+        (word : List ℕ) × IsUnitWord e.now pivots.now e.now.cols (slice_index places.now i) word
+        × (row_of m i ≡ drop first word)) }
 {
     let n = e.cols();
     let mut tails = Matrix::new(alloc, places.len() as u32, n - first)?;

@@ -11,7 +11,7 @@ use Rattle.parity_space.proofs.Parity.build.Goals as goal
 pub echelon-requires : goal.echelon-requires
 echelon-requires g c = record {
   symbols =
-      mirror_symbols c.args.basis.now.bits c.args.basis.now.n (g.F.Field.bits_of c.args.f.now) c.requires.bits c.in_ok-vectors.vectors c.in_ok-mirror.mirror
+      mirror_symbols c.args.basis.now.bits c.args.basis.now.n (g.F.Field.bits_of c.field.result.now) c.field.ensures.bits c.in_ok-vectors.vectors c.in_ok-mirror.mirror
       c.in_ok-vectors.ensures.words c.in_ok-mirror.ensures;
 }
 
@@ -31,7 +31,7 @@ invariant_of-result g c =
     let places = c.in_ok-places.places.items in
     let first = c.first_check-first.result in
     let tails = c.in_ok-tails.tails in
-    built b c.n-n.ensures.sound (g.F.Field.bits_of c.args.f.now) (g.F.Field.modulus_of c.args.f.now) c.requires.bits c.requires.modulus
+    built b c.n-n.ensures.sound (g.F.Field.bits_of c.field.result.now) (g.F.Field.modulus_of c.field.result.now) c.field.ensures.bits c.field.ensures.modulus
     c.in_ok-vectors.vectors c.in_ok-mirror.mirror e c.in_ok-vectors.ensures.cols c.in_ok-vectors.ensures.words c.in_ok-mirror.ensures c.in_ok-reduced.ensures ps c.in_ok-pivots.ensures
     _ c.bits.ensures.value c.modulus.ensures.value c.n-n.ensures.value refl
     (c.in_ok-places.ensures.places ∙ ap (free_places e.cols) c.deref.ensures.value)

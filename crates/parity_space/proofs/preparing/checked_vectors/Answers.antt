@@ -11,7 +11,7 @@ use Rattle.parity_space.proofs.preparing.checked_vectors.Goals as goal
 use Rattle.parity_space.proofs.preparing.checked_vectors.Goals.{then-holds, else-holds}
 
 pub loop-k-init : goal.loop-k-init
-loop-k-init c = record {
+loop-k-init g c = record {
   cols = ap (λ m. m.cols) c.in_ok-vectors.ensures ∙ c.n.ensures.value;
   size =
       ap (λ m. length m.rows) c.in_ok-vectors.ensures
@@ -20,7 +20,7 @@ loop-k-init c = record {
 }
 
 pub set_row-requires-clause-row : goal.set_row-requires-clause-row
-set_row-requires-clause-row c =
+set_row-requires-clause-row g c =
     let inv = c.loop-k.invariant in
     let long : length c.args.basis.now.vectors ≡ c.args.basis.now.n = c.n-k-end.ensures.sound.sound.shape.n_vectors in
     let marks : length c.args.checked.now ≡ c.args.basis.now.n = c.requires in
@@ -30,7 +30,7 @@ set_row-requires-clause-row c =
     (omega arith) (sym c.holds.ensures ∙ c.if-holds.true)
 
 pub overflow_add-next : goal.overflow_add-next
-overflow_add-next c =
+overflow_add-next g c =
     let inv = c.loop-k.invariant in
     let long : length c.args.basis.now.vectors ≡ c.args.basis.now.n = c.n-k-end.ensures.sound.sound.shape.n_vectors in
     let marks : length c.args.checked.now ≡ c.args.basis.now.n = c.requires in
@@ -45,7 +45,7 @@ overflow_add-next c =
     Fits-of_lt small
 
 pub loop-k-preserved : goal.loop-k-preserved
-loop-k-preserved c =
+loop-k-preserved g c =
     let inv = c.loop-k.invariant in
     let long : length c.args.basis.now.vectors ≡ c.args.basis.now.n = c.n-k-end.ensures.sound.sound.shape.n_vectors in
     let marks : length c.args.checked.now ≡ c.args.basis.now.n = c.requires in
@@ -76,7 +76,7 @@ loop-k-preserved c =
     ]
 
 pub returns-clause-rows : goal.returns-clause-rows
-returns-clause-rows c =
+returns-clause-rows g c =
     let inv = c.loop-k.invariant in
     let long : length c.args.basis.now.vectors ≡ c.args.basis.now.n = c.n-k-end.ensures.sound.sound.shape.n_vectors in
     let marks : length c.args.checked.now ≡ c.args.basis.now.n = c.requires in
@@ -85,9 +85,9 @@ returns-clause-rows c =
     collected_end c.args.checked.now c.args.basis.now.vectors c.loop-k.vectors.rows c.loop-k.k c.loop-k.next (omega arith) inv.size inv.collected (omega arith)
 
 pub returns-clause-words : goal.returns-clause-words
-returns-clause-words c i l =
+returns-clause-words g c i l =
     let b = c.args.basis.now in
     let marks = c.args.checked.now in
-    let rows : c.loop-k.vectors.rows ≡ chosen marks b.vectors = returns-clause-rows c in
+    let rows : c.loop-k.vectors.rows ≡ chosen marks b.vectors = returns-clause-rows g c in
     subst (λ (r : List (List ℕ)). IsWord b.bits b.n (get_or r i [])) (sym rows)
     (chosen_word b marks c.n-k-end.ensures.sound c.requires i (subst (λ (r : List (List ℕ)). i < length r) rows l))
