@@ -2,4 +2,8 @@ pub mod Rows
 pub mod Moduli
 pub mod Terms
 pub mod PointLoop
+pub mod Tested
+pub mod OneMeaning
+pub mod Sound
 pub mod Texts
+pub mod KeyOrder

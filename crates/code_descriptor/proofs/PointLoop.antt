@@ -1,8 +1,8 @@
 -- What is known of the points before the first that is refused
-use Rattle.std.proofs.Common.{◌≡◌, ◌≢◌, ℕ, ◌-◌, ◌<◌, ◌≤◌, ◌^◌, Bool, true, false, not, ◌&&◌, ◌||◌, leb, eqb, IsTrue, List, length, take, map, get_or, Option, Some, None, option_map, refl, sym, ap, ◌∙◌, inl, inr, arith, pos}
-use Rattle.std.specs.List.{All, AllPairs}
+use Rattle.std.proofs.Common.{◌≡◌, ◌≢◌, ℕ, ◌-◌, ◌<◌, ◌≤◌, ◌^◌, Bool, true, false, not, ◌&&◌, ◌||◌, leb, eqb, IsTrue, List, length, take, map, get_or, min, Option, Some, None, option_map, refl, sym, ap, ◌∙◌, inl, inr, arith, pos}
+use Rattle.std.specs.List.{All, AllPairs, Contains}
 use Rattle.std.proofs.Math.Seq.{take-length}
-use Rattle.std.proofs.lemmas.List.{get_or-map, get_or-take, take-map, length-map, length-take-le}
+use Rattle.std.proofs.lemmas.List.{get_or-map, get_or-take, take-map, length-map, length-take, length-take-le}
 use Rattle.std.proofs.lemmas.List.Folds.{list_any_at}
 use Rattle.std.proofs.lemmas.Bool.{cases_lt, both_ways, or_parts, or_left, le-leb, not-false, and_parts, and_from, eq-eqb}
 use Rattle.order_domain.specs.declared.Point.{Point}
@@ -12,22 +12,22 @@ use Rattle.cab_curve.specs.Points.{is_on_curve}
 use Rattle.cab_curve.proofs.Least.{least-at, least-none}
 use Rattle.code_descriptor.specs.declared.DescCause.TheVariants.{BadPoint}
 use Rattle.code_descriptor.specs.Tree.{NamedPoint}
-use Rattle.code_descriptor.specs.Meaning.{plain_point, named_point_at, has_point, is_curve_point, is_bad_point, point_refusal, is_from_to}
+use Rattle.code_descriptor.specs.Tests.{plain_point, named_point_at, has_point, is_curve_point, is_bad_point, point_refusal, is_from_to}
 
 pub refused_at : (m p : ℕ) (ts : List Term) (ps : List NamedPoint) (k : ℕ) → least k (is_bad_point m p ts ps) ≡ None → is_bad_point m p ts ps k ≡ true → k < length ps
     → point_refusal m p ts ps ≡ Some (BadPoint k)
 unfolding point_refusal
 refused_at m p ts ps k none bad lt = rw (least-at (length ps) k (is_bad_point m p ts ps) none bad lt) refl
 
--- no more than 512 points come before a refusal
-pub few_points : (m p : ℕ) (ts : List Term) (ps : List NamedPoint) (k : ℕ) → least k (is_bad_point m p ts ps) ≡ None → k ≤ 512
+-- no more than 1024 points come before a refusal
+pub few_points : (m p : ℕ) (ts : List Term) (ps : List NamedPoint) (k : ℕ) → least k (is_bad_point m p ts ps) ≡ None → k ≤ 1024
 unfolding is_bad_point
 few_points m p ts ps k none =
-    elim (cases_lt 512 k) [
+    elim (cases_lt 1024 k) [
       | inl over ↦
-          let bad : leb 512 512 || not (is_curve_point m p ts (named_point_at ps 512)) ≡ true = or_left (leb 512 512) (not (is_curve_point m p ts (named_point_at ps 512))) (le-leb 512 512 (omega arith)) in
-          absurd (both_ways (is_bad_point m p ts ps 512) (least-none k (is_bad_point m p ts ps) none 512 over)
-          (or_left (leb 512 512 || not (is_curve_point m p ts (named_point_at ps 512))) (has_point (map plain_point (take 512 ps)) (plain_point (named_point_at ps 512))) bad))
+          let bad : leb 1024 1024 || not (is_curve_point m p ts (named_point_at ps 1024)) ≡ true = or_left (leb 1024 1024) (not (is_curve_point m p ts (named_point_at ps 1024))) (le-leb 1024 1024 (omega arith)) in
+          absurd (both_ways (is_bad_point m p ts ps 1024) (least-none k (is_bad_point m p ts ps) none 1024 over)
+          (or_left (leb 1024 1024 || not (is_curve_point m p ts (named_point_at ps 1024))) (has_point (map plain_point (take 1024 ps)) (plain_point (named_point_at ps 1024))) bad))
       | inr few ↦ few
     ]
 
@@ -51,8 +51,8 @@ good_point m p ts ps k h =
     let q : NamedPoint = named_point_at ps k in
     let ranges : Bool = is_from_to 0 (2 ^ m - 1) q.x && is_from_to 0 (2 ^ m - 1) q.y in
     let on : Bool = is_on_curve m p ts (plain_point q) in
-    let parts = or_parts (leb 512 k || not (ranges && on)) (has_point (map plain_point (take k ps)) (plain_point q)) h in
-    let low = or_parts (leb 512 k) (not (ranges && on)) parts.0 in
+    let parts = or_parts (leb 1024 k || not (ranges && on)) (has_point (map plain_point (take k ps)) (plain_point q)) h in
+    let low = or_parts (leb 1024 k) (not (ranges && on)) parts.0 in
     record { on_curve = (and_parts ranges on (not-false (ranges && on) low.1)).1; new = parts.1 }
 
 none_bad : (m p : ℕ) (ts : List Term) (ps : List NamedPoint) (o : Option ℕ) → least (length ps) (is_bad_point m p ts ps) ≡ o → option_map BadPoint o ≡ None → o ≡ None
@@ -73,7 +73,7 @@ module _ (m p : ℕ) (ts : List Term) (ps : List NamedPoint) (none : point_refus
   same_length : length (map plain_point ps) ≡ length ps
   same_length = simp length-map
 
-  pub all_few : length (map plain_point ps) ≤ 512
+  pub all_few : length (map plain_point ps) ≤ 1024
   all_few = let few = few_points m p ts ps (length ps) first_none in omega (arith, same_length)
 
   pub all_on_curve : All (λ q. IsTrue (is_on_curve m p ts q)) (map plain_point ps)
@@ -95,3 +95,18 @@ module _ (m p : ℕ) (ts : List Term) (ps : List NamedPoint) (none : point_refus
       (and_from (eqb (get_or (map plain_point (take j ps)) i d).x q.x) (eqb (get_or (map plain_point (take j ps)) i d).y q.y)
       (eq-eqb (get_or (map plain_point (take j ps)) i d).x q.x (ap (λ (r : Point). r.x) same))
       (eq-eqb (get_or (map plain_point (take j ps)) i d).y q.y (ap (λ (r : Point). r.y) same))))
+
+-- ---- a point that is not among those before it
+
+pub is_fresh : (ps : List Point) (p : Point) → has_point ps p ≡ false → Contains ps p → ⊥
+is_fresh ps p h w =
+    let q : Point = get_or ps w.0 p in
+    both_ways (has_point ps p) h
+    (list_any_at (λ r. eqb r.x p.x && eqb r.y p.y) ps w.0 p w.1
+    (and_from (eqb q.x p.x) (eqb q.y p.y) (eq-eqb q.x p.x (ap (λ (r : Point). r.x) w.2)) (eq-eqb q.y p.y (ap (λ (r : Point). r.y) w.2))))
+
+pub has_room : (ps : List NamedPoint) (k : ℕ) (plain : List Point) → plain ≡ map plain_point (take k ps) → k < 1024 → length plain < 1024
+has_room ps k plain e l =
+    let same : length plain ≡ length (take k ps) = ap length e ∙ simp length-map in
+    let few : length (take k ps) ≡ min k (length ps) = length-take k ps in
+    omega arith

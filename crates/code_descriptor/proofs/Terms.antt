@@ -15,7 +15,7 @@ use Rattle.cab_curve.specs.declared.equation.CurveFault.TheVariants as fault
 use Rattle.cab_curve.proofs.Least.{least-at, least-same, least-some}
 use Rattle.code_descriptor.specs.declared.DescCause.TheVariants.{BadTerm, MissingLead}
 use Rattle.code_descriptor.specs.Tree.{NamedTerm}
-use Rattle.code_descriptor.specs.Meaning.{nat, fits_u32, is_from_to, plain_term, named_term_at, is_bad_named_term, term_refusal}
+use Rattle.code_descriptor.specs.Tests.{nat, fits_u32, is_from_to, plain_term, named_term_at, is_bad_named_term, term_refusal}
 use Rattle.code_descriptor.specs.Views.{fits_term, IsFittingPart, error_of, IsRefusal}
 
 -- ---- the terms that fit beside all terms

@@ -1,4 +1,7 @@
 pub mod FieldTest
 pub mod Tree
+pub mod Parts
+pub mod Inside
+pub mod Tests
 pub mod Meaning
 pub mod Views

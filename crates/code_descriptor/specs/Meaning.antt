@@ -1,152 +1,149 @@
--- The meaning of a text: its first refusal, or what it describes.
+-- What a text means: it is refused for one cause, or it describes one code.
 --
--- nat                   the natural number of an integer, and 0 of a negative one
--- is_from_to            whether an integer is from one number to another; fits_u32: from 0 to 2^32 - 1
--- plain_term            a term by its natural numbers; plain_point: a point, with z 0
--- Parts, parts          what a descriptor describes: field, curve, points, weight and depth, by plain numbers and lists
--- is_field              whether two integers are the bits and the modulus of a field
--- are_degrees           whether two integers are the weights of x and y of a curve
--- is_bad_named_term     whether a term is refused: i or j fits no u32, or the term is bad for a curve
--- is_curve_point        whether the coordinates of a point are symbols, and it is on the curve
--- has_point             whether a point is among others
--- is_bad_point          whether a point is refused: 512 stand before it, it is no point of the curve, or an earlier one is the same
--- term_refusal          the least bad term, else a missing lead; point_refusal: the least bad point
--- named_refusals        the refusals of what stands at the keys, in order
--- table_refusals        the refusals of a table, in order: a bad key, an unknown key, those of what stands at the keys
--- table_of              the table that a text is, where it is UTF-8 and a document of TOML
--- refusals              the refusals of a text, in order: too large, no TOML, those of the table
--- Meaning, meaning      the first refusal of a text, or the parts that it describes
-use Rattle.std.specs.Prelude.{ℕ, ◌-◌, ◌^◌, ◌==◌, nat_le, nat_lt, ℤ, pos, negsuc, List, [], ◌∷◌, map, take, length, slice_index_or, Bool, false, not, ◌&&◌, ◌||◌, Option, Some, None, is_none, option_map, if◌then◌else◌}
-use Rattle.std.specs.List.{list_any}
-use Rattle.std.specs.Str.{is_utf8}
-use Rattle.toml.specs.Data.{Members, no_members}
+-- IsTable         the text is not too large, it is UTF-8, and as a document of TOML it is this table
+-- Names           a text has no bad key, and these integers, arrays and words stand at its keys
+-- Lacks           there are no parts of which this holds
+--
+-- What is named has these parts, as far as it was looked at; each of these stands on the one before it, and the parts
+-- that come later are then free:
+-- HasField        bits and modulus are those of a field
+-- HasDegrees      a and b are the weights of x and y of a curve
+-- HasTerms        the terms are those of the curve's equation, and none of them is bad; bad_term: the first that is
+-- HasCurve        no lead is missing; lacks_lead: whether one is
+-- HasPoints       the points are points of the curve, and none of them is bad; bad_point: the first that is
+-- HasRule         the rule is the one named, and its number is 0 to MOST_NUMBER
+-- HasLayout       the layout is `bytes` or `packed`, or missing
+-- AreParts        depth is 1 to MOST_DEPTH, so that all parts are there
+--
+-- IsRefusedPart   why what is named is refused: all that comes before a cause is there, and what it asks for is not
+-- IsRefusedFor    a text is refused for this cause
+-- Describes       a text describes these parts
+-- HasOneMeaning   a text is refused for one cause or describes one code, and never both
+-- OneMeaningLaw   the theorem: every text has one meaning
+-- MeansTheSame    two texts have the same meaning
+use Rattle.std.specs.Prelude.{◌≡◌, ◌⊎◌, ℕ, ◌^◌, ◌<◌, ◌≤◌, ℤ, pos, List, map, length, Bool, true, false, Option, Some, None}
+use Rattle.std.specs.Str.{IsUtf8}
+use Rattle.toml.specs.Data.{Members}
 use Rattle.toml.specs.Parse.{parse_document}
-use Rattle.curve_theory.specs.declared.Term.{Term}
-use Rattle.order_domain.specs.declared.Point.{Point}
-use Rattle.weight_semi.specs.Generators.{are_generators}
-use Rattle.cab_curve.specs.First.{when, first_of, least}
-use Rattle.cab_curve.specs.Equation.{is_bad_term, misses_lead}
-use Rattle.cab_curve.specs.Points.{is_on_curve}
-use Rattle.code_descriptor.specs.declared.KeyName.TheVariants as key
+use Rattle.gf_theory.specs.Field.{IsModulus}
+use Rattle.weight_semi.specs.Generators.{AreGenerators}
+use Rattle.cab_curve.specs.Equation.{misses_lead}
+use Rattle.eval_basis.specs.declared.checked.CheckRule.{CheckRule}
+use Rattle.eval_basis.specs.declared.checked.CheckRule.TheVariants.{AtMost, Small}
+use Rattle.code_descriptor.specs.declared.keys.NamedRule.TheVariants.{Weight, Improved}
 use Rattle.code_descriptor.specs.declared.DescCause.{DescCause}
-use Rattle.code_descriptor.specs.declared.DescCause.TheVariants.{TooLarge, NotToml, BadKey, BadField, BadDegrees, BadTerm, MissingLead, BadPoint, BadWeight, BadDepth}
-use Rattle.code_descriptor.specs.FieldTest.{is_modulus}
-use Rattle.code_descriptor.specs.Tree.{Named, NamedTerm, NamedPoint, named, bad_key, has_unknown}
+use Rattle.code_descriptor.specs.declared.DescCause.TheVariants.{TooLarge, NotToml, BadKey, BadField, BadDegrees, BadTerm, MissingLead, BadPoint, BadWeight, BadImproved, BadLayout, BadDepth, NoPoints, NothingFree}
+use Rattle.ag_frame.specs.declared.frame.TheConstants.{MOST_DEPTH}
+use Rattle.code_descriptor.specs.declared.TheConstants.{MOST_TEXT, MOST_NUMBER}
+use Rattle.code_descriptor.specs.Tree.{Named, NamedRule, IsNamed, bad_key}
+pub use Rattle.code_descriptor.specs.Parts.{Parts, Space, equation}
+use Rattle.code_descriptor.specs.Tests.{plain_term, plain_point, first_bad_term, first_bad_point}
 
-abbrev pub nat : ℤ → ℕ
-nat (pos n) = n
-nat (negsuc n) = 0
+pub record IsTable (text : List ℕ) (table : Members) : Type 0 where
+  pub small : length text ≤ MOST_TEXT
+  pub utf8 : IsUtf8 text
+  pub document : parse_document text ≡ Some table
 
-abbrev pub is_from_to : (low high : ℕ) → ℤ → Bool
-is_from_to low high (pos n) = nat_le low n && nat_le n high
-is_from_to low high (negsuc n) = false
+pub record Names (text : List ℕ) (n : Named) : Type 0 where
+  pub table : Members
+  pub is_table : IsTable text table
+  pub no_bad_key : bad_key table ≡ None
+  pub named : IsNamed table n
 
-abbrev pub fits_u32 : ℤ → Bool
-fits_u32 z = is_from_to 0 4294967295 z
+abbrev pub Lacks : (Parts → Type 0) → Type 0
+Lacks Holds = (p : Parts) → Holds p → ⊥
 
-abbrev pub plain_term : NamedTerm → Term
-plain_term t = record { i = nat t.i; j = nat t.j; c = nat t.c }
+pub record HasField (n : Named) (p : Parts) : Type 0 where
+  pub bits : n.bits ≡ pos p.bits
+  pub modulus : n.modulus ≡ pos p.modulus
+  pub field : IsModulus p.bits p.modulus
 
-abbrev pub plain_point : NamedPoint → Point
-plain_point p = record { x = nat p.x; y = nat p.y; z = 0 }
+pub record HasDegrees (n : Named) (p : Parts) : Type 0 where
+  pub before : HasField n p
+  pub bits : (equation p.space).bits ≡ p.bits
+  pub a : n.a ≡ pos (equation p.space).a
+  pub b : n.b ≡ pos (equation p.space).b
+  pub generators : AreGenerators (equation p.space).a (equation p.space).b
 
-pub record Parts : Type 0 where
-  pub bits : ℕ
-  pub modulus : ℕ
-  pub a : ℕ
-  pub b : ℕ
-  pub terms : List Term
-  pub points : List Point
-  pub weight : ℕ
-  pub depth : ℕ
+abbrev pub bad_term : Named → Parts → Option ℕ
+bad_term n p = first_bad_term (2 ^ p.bits) (equation p.space).a (equation p.space).b n.terms
 
-abbrev pub parts : Named → Parts
-parts n = record {
-  bits = nat n.bits;
-  modulus = nat n.modulus;
-  a = nat n.a;
-  b = nat n.b;
-  terms = map plain_term n.terms;
-  points = map plain_point n.points;
-  weight = nat n.weight;
-  depth = nat n.depth;
-}
+pub record HasTerms (n : Named) (p : Parts) : Type 0 where
+  pub before : HasDegrees n p
+  pub terms : (equation p.space).terms ≡ map plain_term n.terms
+  pub none_bad : bad_term n p ≡ None
 
-unfoldable pub is_field : (bits modulus : ℤ) → Bool
-is_field bits modulus = (fits_u32 bits && fits_u32 modulus) && is_modulus (nat bits) (nat modulus)
+abbrev pub lacks_lead : Parts → Bool
+lacks_lead p = misses_lead (equation p.space).a (equation p.space).b (equation p.space).terms
 
-unfoldable pub are_degrees : (a b : ℤ) → Bool
-are_degrees a b = (fits_u32 a && fits_u32 b) && are_generators (nat a) (nat b)
+pub record HasCurve (n : Named) (p : Parts) : Type 0 where
+  pub before : HasTerms n p
+  pub leads : lacks_lead p ≡ false
 
-abbrev pub named_term_at : List NamedTerm → ℕ → NamedTerm
-named_term_at ts k = slice_index_or ts k (record { i = pos 0; j = pos 0; c = pos 0 })
+abbrev pub bad_point : Named → Parts → Option ℕ
+bad_point n p = first_bad_point p.bits p.modulus (equation p.space).terms n.points
 
-abbrev pub named_point_at : List NamedPoint → ℕ → NamedPoint
-named_point_at ps k = slice_index_or ps k (record { x = pos 0; y = pos 0 })
+pub record HasPoints (n : Named) (p : Parts) : Type 0 where
+  pub before : HasCurve n p
+  pub points : p.points ≡ map plain_point n.points
+  pub none_bad : bad_point n p ≡ None
 
--- term k; a symbol is below `size`
-unfoldable pub is_bad_named_term : (size a b : ℕ) → List NamedTerm → ℕ → Bool
-is_bad_named_term size a b ts k =
-    not (fits_u32 (named_term_at ts k).i && fits_u32 (named_term_at ts k).j) || is_bad_term size a b (map plain_term ts) k
+abbrev pub IsRule : NamedRule → CheckRule → Type 0
+IsRule (Weight z) (AtMost weight) = (z ≡ pos weight) × (weight ≤ MOST_NUMBER)
+IsRule (Improved z) (Small pairs) = (z ≡ pos pairs) × (pairs ≤ MOST_NUMBER)
+IsRule (Weight z) (Small pairs) = ⊥
+IsRule (Improved z) (AtMost weight) = ⊥
 
-unfoldable pub is_curve_point : (bits modulus : ℕ) → List Term → NamedPoint → Bool
-is_curve_point bits modulus terms p =
-    (is_from_to 0 (2 ^ bits - 1) p.x && is_from_to 0 (2 ^ bits - 1) p.y) && is_on_curve bits modulus terms (plain_point p)
+pub record HasRule (n : Named) (p : Parts) : Type 0 where
+  pub before : HasPoints n p
+  pub rule : IsRule n.rule p.rule
 
-abbrev pub has_point : List Point → Point → Bool
-has_point ps p = list_any (λ q. q.x == p.x && q.y == p.y) ps
+pub record HasLayout (n : Named) (p : Parts) : Type 0 where
+  pub before : HasRule n p
+  pub layout : n.packed ≡ Some p.packed
 
--- point k
-unfoldable pub is_bad_point : (bits modulus : ℕ) → List Term → List NamedPoint → ℕ → Bool
-is_bad_point bits modulus terms ps k =
-    (nat_le 512 k || not (is_curve_point bits modulus terms (named_point_at ps k)))
-    || has_point (map plain_point (take k ps)) (plain_point (named_point_at ps k))
+pub record AreParts (n : Named) (p : Parts) : Type 0 where
+  pub before : HasLayout n p
+  pub depth : n.depth ≡ pos p.depth
+  pub depth_least : 1 ≤ p.depth
+  pub depth_most : p.depth ≤ MOST_DEPTH
 
-unfoldable pub term_refusal : (size a b : ℕ) → List NamedTerm → Option DescCause
-term_refusal size a b ts = first_of (
-    option_map BadTerm (least (length ts) (is_bad_named_term size a b ts))
-    ∷ when (misses_lead a b (map plain_term ts)) MissingLead
-    ∷ [])
+abbrev pub IsRefusedPart : Named → DescCause → Type 0
+IsRefusedPart n BadField = Lacks (HasField n)
+IsRefusedPart n BadDegrees = (p : Parts) × HasField n p × Lacks (HasDegrees n)
+IsRefusedPart n (BadTerm index) = (p : Parts) × HasDegrees n p × (bad_term n p ≡ Some index)
+IsRefusedPart n MissingLead = (p : Parts) × HasTerms n p × (lacks_lead p ≡ true)
+IsRefusedPart n (BadPoint index) = (p : Parts) × HasCurve n p × (bad_point n p ≡ Some index)
+IsRefusedPart n BadWeight = (p : Parts) × HasPoints n p × ((z : ℤ) × (n.rule ≡ Weight z)) × Lacks (HasRule n)
+IsRefusedPart n BadImproved = (p : Parts) × HasPoints n p × ((z : ℤ) × (n.rule ≡ Improved z)) × Lacks (HasRule n)
+IsRefusedPart n BadLayout = (p : Parts) × HasRule n p × Lacks (HasLayout n)
+IsRefusedPart n BadDepth = (p : Parts) × HasLayout n p × Lacks (AreParts n)
+IsRefusedPart n TooLarge = ⊥
+IsRefusedPart n NotToml = ⊥
+IsRefusedPart n (BadKey key) = ⊥
+IsRefusedPart n NoPoints = ⊥
+IsRefusedPart n NothingFree = ⊥
 
-unfoldable pub point_refusal : (bits modulus : ℕ) → List Term → List NamedPoint → Option DescCause
-point_refusal bits modulus terms ps = option_map BadPoint (least (length ps) (is_bad_point bits modulus terms ps))
+abbrev pub IsRefusedFor : List ℕ → DescCause → Type 0
+IsRefusedFor text TooLarge = MOST_TEXT < length text
+IsRefusedFor text NotToml = (length text ≤ MOST_TEXT) × ((table : Members) → IsTable text table → ⊥)
+IsRefusedFor text (BadKey key) = (table : Members) × IsTable text table × (bad_key table ≡ Some key)
+IsRefusedFor text cause = (n : Named) × Names text n × IsRefusedPart n cause
 
-unfoldable pub named_refusals : Named → List (Option DescCause)
-named_refusals n =
-    when (not (is_field n.bits n.modulus)) BadField
-    ∷ when (not (are_degrees n.a n.b)) BadDegrees
-    ∷ term_refusal (2 ^ nat n.bits) (nat n.a) (nat n.b) n.terms
-    ∷ point_refusal (nat n.bits) (nat n.modulus) (map plain_term n.terms) n.points
-    ∷ when (not (is_from_to 0 65535 n.weight)) BadWeight
-    ∷ when (not (is_from_to 1 64 n.depth)) BadDepth
-    ∷ []
+pub record Describes (text : List ℕ) (p : Parts) : Type 0 where
+  pub named : Named
+  pub names : Names text named
+  pub parts : AreParts named p
 
-unfoldable pub table_refusals : Members → List (Option DescCause)
-table_refusals table =
-    option_map BadKey (bad_key table)
-    ∷ when (has_unknown table) (BadKey key.Unknown)
-    ∷ named_refusals (named table)
+pub record HasOneMeaning (text : List ℕ) : Type 0 where
+  pub some : ((cause : DescCause) × IsRefusedFor text cause) ⊎ ((p : Parts) × Describes text p)
+  pub one_cause : (c d : DescCause) → IsRefusedFor text c → IsRefusedFor text d → c ≡ d
+  pub one_code : (p q : Parts) → Describes text p → Describes text q → p ≡ q
+  pub not_both : (cause : DescCause) (p : Parts) → IsRefusedFor text cause → Describes text p → ⊥
 
-unfoldable pub table_of : List ℕ → Option Members
-table_of text = if is_utf8 text then parse_document text else None
+abbrev pub OneMeaningLaw : Type 0
+OneMeaningLaw = (text : List ℕ) → HasOneMeaning text
 
-abbrev pub or_no_members : Option Members → Members
-or_no_members None = no_members
-or_no_members (Some table) = table
-
-unfoldable pub refusals : List ℕ → List (Option DescCause)
-refusals text =
-    when (nat_lt 1048576 (length text)) TooLarge
-    ∷ when (is_none (table_of text)) NotToml
-    ∷ table_refusals (or_no_members (table_of text))
-
-pub data Meaning : Type 0 where
-  refused : DescCause → Meaning
-  describes : Parts → Meaning
-
-abbrev pub refused_or : Option DescCause → Parts → Meaning
-refused_or (Some cause) p = refused cause
-refused_or None p = describes p
-
-unfoldable pub meaning : List ℕ → Meaning
-meaning text = refused_or (first_of (refusals text)) (parts (named (or_no_members (table_of text))))
+pub record MeansTheSame (text other : List ℕ) : Type 0 where
+  pub refused : (cause : DescCause) → IsRefusedFor text cause → IsRefusedFor other cause
+  pub described : (p : Parts) → Describes text p → Describes other p

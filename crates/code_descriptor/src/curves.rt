@@ -1,7 +1,7 @@
 //! From the terms of a text to a curve.
 
 ghost use Rattle.std.specs.Prelude.{◌≡◌, ℕ, ◌^◌, true, false, None, IfOk, MatchOption, MatchResult, map};
-ghost use Rattle.code_descriptor.specs.Meaning.{plain_term, term_refusal};
+ghost use Rattle.code_descriptor.specs.Tests.{plain_term, term_refusal};
 ghost use Rattle.code_descriptor.specs.Views.{fits_term, IsFittingPart, error_of, IsRefusal};
 
 use crate::parts::within;
@@ -15,7 +15,9 @@ use weight_semi::Semi;
 // The term, where its numbers fit those of a term.
 #[tactic(auto, unfolding(crate::specs::Views::fits_term))]
 fn plain_term(term: NamedTerm) -> Option<Term>
-    ensures { MatchOption result (fits_term term ≡ false) (λ t. (fits_term term ≡ true) × (t ≡ plain_term term)) }
+    ensures { MatchOption result
+        (fits_term term ≡ false)
+        (λ t. (fits_term term ≡ true) × (t ≡ plain_term term)) }
 {
     let i = within(term.i, 0, u32::MAX)?;
     let j = within(term.j, 0, u32::MAX)?;
@@ -57,8 +59,14 @@ pub fn curve_of(
     degrees: Semi,
     terms: &[NamedTerm],
 ) -> Result<Curve, DescError>
-    ensures { MatchResult result (λ c. (term_refusal (2 ^ field.now.bits) degrees.a degrees.b terms.now ≡ None)
-        × (c ≡ record { bits = field.now.bits; a = degrees.a; b = degrees.b; terms = map plain_term terms.now })) (λ e. IsRefusal e (term_refusal (2 ^ field.now.bits) degrees.a degrees.b terms.now)) }
+    ensures { MatchResult result
+        (λ c. (term_refusal (2 ^ field.now.bits) degrees.a degrees.b terms.now ≡ None)
+            × (c ≡ record {
+                bits = field.now.bits;
+                a = degrees.a;
+                b = degrees.b;
+                terms = map plain_term terms.now }))
+        (λ e. IsRefusal e (term_refusal (2 ^ field.now.bits) degrees.a degrees.b terms.now)) }
 {
     if terms.len() > 4_294_967_295 {
         return Err(DescError::NoMemory);

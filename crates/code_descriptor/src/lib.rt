@@ -1,28 +1,35 @@
-//! The text of a descriptor: the field, the curve, the points, the weight up to which functions are checked, and the depth
-//! of a code, in TOML. Start at [`read`]; what a text means stands in specs/Meaning, over the tree that `toml` gives.
+//! The text of a descriptor, in TOML: a field, a space over it, points of the space, the rule by which functions are
+//! checked, and the depth and the layout of stored text. Start at [`read`]; what a text means stands in specs/Meaning, over
+//! the tree that `toml` gives.
 #![tactic(auto, using(cab_curve::proofs::Least::steps))]
 
 mod curves;
+mod descriptor;
 mod keys;
 mod parts;
 mod points;
+mod space;
 mod tree;
 
 ghost use Rattle.std.specs.Prelude.{◌≡◌, ℕ, ◌<◌, ◌↔◌, length, true, IfOk, IfErr, MatchResult, None};
 ghost use Rattle.gf_theory.specs.Field.{IsModulus};
 ghost use Rattle.toml.specs.View.{table_view};
-ghost use Rattle.cab_curve.specs.First.{first_of};
 ghost use Rattle.code_descriptor.specs.FieldTest.{is_modulus};
-ghost use Rattle.code_descriptor.specs.Tree.{named};
-ghost use Rattle.code_descriptor.specs.Meaning.{table_refusals, meaning, describes, parts};
-ghost use Rattle.code_descriptor.specs.Views.{parts_of, IsDescriptor, IsRefusal, Refuses};
+ghost use Rattle.code_descriptor.specs.Meaning.{IsRefusedFor, Describes, OneMeaningLaw};
+ghost use Rattle.code_descriptor.specs.Views.{IsAccepted, IsTableRefusal};
 
-use cab_curve::{Curve, Point};
-use gf_field::PolyField;
-pub use keys::NamedParts;
+pub use descriptor::{Descriptor, Pieces};
+pub use keys::{NamedParts, NamedRule};
+pub use space::Space;
 use std::alloc::{AllocError, AllocFailed, Global};
 use toml::value::Table;
 pub use tree::{NamedPoint, NamedTerm};
+
+/// The greatest length of a text, in bytes.
+pub const MOST_TEXT: usize = 1_048_576;
+
+/// The greatest number at `weight` and at `improved`.
+pub const MOST_NUMBER: u32 = 65_535;
 
 /// The keys of a descriptor, and any other.
 #[derive(Clone, Copy, Debug, PartialEq, Eq)]
@@ -34,6 +41,8 @@ pub enum KeyName {
     Terms,
     Points,
     Weight,
+    Improved,
+    Layout,
     Depth,
     Unknown,
 }
@@ -41,11 +50,13 @@ pub enum KeyName {
 /// Why a text describes no code. `read` answers the first cause that applies, in this order.
 #[derive(Clone, Copy, Debug, PartialEq, Eq)]
 pub enum DescCause {
-    /// The text has more than 1,048,576 bytes.
+    /// The text has more than [`MOST_TEXT`] bytes.
     TooLarge,
     /// The text is not UTF-8, or no document of TOML.
     NotToml,
-    /// The first key that is missing or of another kind, else that there is an unknown key.
+    /// The first key that is missing or of another kind, in the order of [`KeyName`], else that there is an unknown key.
+    /// `weight` is bad also where `improved` is missing too, and `improved` where `weight` is there too; `layout` may be
+    /// missing.
     BadKey { key: KeyName },
     /// `bits` is not 2 to 8, or `modulus` is not irreducible of that degree.
     BadField,
@@ -56,11 +67,15 @@ pub enum DescCause {
     BadTerm { index: u32 },
     /// There is no term `y^a` or no term `x^b`.
     MissingLead,
-    /// The first point that is not on the curve, that equals an earlier one, or before which 512 stand.
+    /// The first point that is not on the curve, that equals an earlier one, or before which 1,024 stand.
     BadPoint { index: u32 },
-    /// `weight` is not 0 to 65,535.
+    /// `weight` is there and not 0 to [`MOST_NUMBER`].
     BadWeight,
-    /// `depth` is not 1 to 64.
+    /// `improved` is there and not 0 to [`MOST_NUMBER`].
+    BadImproved,
+    /// `layout` is there and neither `bytes` nor `packed`.
+    BadLayout,
+    /// `depth` is not 1 to [`ag_frame::MOST_DEPTH`].
     BadDepth,
     /// There are no points. `read` accepts such a text.
     NoPoints,
@@ -95,6 +110,18 @@ impl<T: Drop> From<AllocFailed<T>> for DescError {
     }
 }
 
+impl From<KeyName> for DescError {
+    ghost use Rattle.code_descriptor.specs.declared.DescCause.TheVariants.{BadKey};
+    ghost use Rattle.code_descriptor.specs.declared.DescError.TheVariants.{Refused};
+
+    ghost from_gives = { λ key e. e ≡ Refused (BadKey key) };
+
+    fn from(key: KeyName) -> DescError {
+        let cause = DescCause::BadKey { key };
+        DescError::Refused { cause }
+    }
+}
+
 impl From<DescCause> for DescError {
     ghost use Rattle.code_descriptor.specs.declared.DescError.TheVariants.{Refused};
 
@@ -105,52 +132,37 @@ impl From<DescCause> for DescError {
     }
 }
 
-/// What a text describes.
-#[derive(Drop)]
-pub struct Descriptor {
-    pub field: PolyField,
-    /// Its bits are the field's.
-    pub curve: Curve,
-    /// At most 512 distinct points of the curve.
-    pub points: Vec<Point>,
-    /// Functions up to this weight are checked; 0 to 65,535.
-    pub weight: u32,
-    /// The codewords of a group; 1 to 64.
-    pub depth: u32,
-}
-
-/// The greatest length of a text.
-const LIMIT: usize = 1_048_576;
-
 /// The test of a field's bits and modulus decides what they are. The contract is the theorem.
 pub fn field_test_decides()
     ensures { (m p : ℕ) → (is_modulus m p ≡ true) ↔ IsModulus m p }
 {}
 
-// What a table describes, or its first refusal.
-#[tactic(auto, unfolding(crate::specs::Meaning::table_refusals))]
+/// Every text has one meaning: it is refused for one cause, or it describes one code, and never both. The contract is the
+/// theorem.
+pub fn texts_have_one_meaning()
+    ensures { OneMeaningLaw }
+{}
+
+// What a table describes, or why it is refused.
 fn read_table(alloc: Global, table: &Table) -> Result<Descriptor, DescError>
-    ensures meaning { MatchResult result (λ d. (first_of (table_refusals (table_view table.now)) ≡ None) × (parts_of d ≡ parts (named (table_view table.now))))
-        (λ e. IsRefusal e (first_of (table_refusals (table_view table.now)))) }
-    ensures descriptor { IfOk result IsDescriptor }
+    ensures { MatchResult result
+        (IsAccepted (table_view table.now))
+        (IsTableRefusal (table_view table.now)) }
 {
     let named = keys::named_parts(alloc, table)?;
-    if keys::has_unknown(table) {
-        let key = KeyName::Unknown;
-        return Err(DescCause::BadKey { key }.into());
-    }
     parts::descriptor(alloc, &named)
 }
 
 /// What a text describes, or the first cause that refuses it. Want of memory may come in place of any answer but
 /// `TooLarge`.
 pub fn read(alloc: Global, text: &[u8]) -> Result<Descriptor, DescError>
-    ensures accepted { IfOk result (λ d. meaning text.now ≡ describes (parts_of d)) }
-    ensures refused { IfErr result (λ e. Refuses e (meaning text.now)) }
-    ensures too_large { LIMIT < length text.now → result ≡ Err (DescError.Refused DescCause.TooLarge) }
-    ensures descriptor { IfOk result IsDescriptor }
+    ensures accepted { IfOk result (Describes text.now) }
+    ensures refused { (cause : DescCause) →
+        result ≡ Err (DescError.Refused cause) → IsRefusedFor text.now cause }
+    ensures too_large { MOST_TEXT < length text.now →
+        result ≡ Err (DescError.Refused DescCause.TooLarge) }
 {
-    if text.len() > LIMIT {
+    if text.len() > MOST_TEXT {
         return Err(DescCause::TooLarge.into());
     }
     match toml::table_from_slice(alloc, text) {
@@ -159,6 +171,8 @@ pub fn read(alloc: Global, text: &[u8]) -> Result<Descriptor, DescError>
         Err(_) => Err(DescCause::NotToml.into()),
     }
 }
+
+
 
 #[cfg(test)]
 mod tests;

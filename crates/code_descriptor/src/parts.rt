@@ -1,23 +1,27 @@
 //! From the integers of a text to a descriptor.
 
-ghost use Rattle.std.specs.Prelude.{◌≡◌, ℕ, ◌≤◌, true, false, IfOk, IfSome, MatchOption, MatchResult, None};
+ghost use Rattle.std.specs.Prelude.{◌≡◌, ℕ, ◌≤◌, true, false, IfSome, MatchOption, MatchResult, None, unwrap_or, is_none};
 ghost use Rattle.weight_semi.specs.Generators.{AreGenerators};
 ghost use Rattle.cab_curve.specs.First.{first_of};
 ghost use Rattle.code_descriptor.specs.FieldTest.{is_modulus};
-ghost use Rattle.code_descriptor.specs.Meaning.{nat, is_from_to, is_field, are_degrees, parts, named_refusals};
-ghost use Rattle.code_descriptor.specs.Views.{parts_of, named_of, IsDescriptor, IsRefusal};
+ghost use Rattle.code_descriptor.specs.Tests.{nat, is_from_to, is_field, are_degrees, parts, plain_rule, rule_refusal, refusals};
+ghost use Rattle.code_descriptor.specs.Views.{named_of, IsRefusal};
 
 use crate::curves::curve_of;
-use crate::keys::NamedParts;
+use crate::keys::{NamedParts, NamedRule};
 use crate::points::points_of;
-use crate::{DescCause, DescError, Descriptor};
+use crate::{DescCause, DescError, Descriptor, MOST_NUMBER, Pieces, Space};
+use ag_frame::MOST_DEPTH;
+use eval_basis::CheckRule;
 use gf_field::PolyField;
 use std::alloc::Global;
 use weight_semi::Semi;
 
 /// The integer, where it is from `low` to `high`.
 pub fn within(z: i64, low: u32, high: u32) -> Option<u32>
-    ensures test { MatchOption result (is_from_to low high z ≡ false) (λ n. (is_from_to low high z ≡ true) × (n ≡ nat z)) }
+    ensures test { MatchOption result
+        (is_from_to low high z ≡ false)
+        (λ n. (is_from_to low high z ≡ true) × (n ≡ nat z)) }
     ensures range { IfSome result (λ n. (low ≤ n) × (n ≤ high)) }
 {
     if i64::from(low) <= z && z <= i64::from(high) {
@@ -29,15 +33,19 @@ pub fn within(z: i64, low: u32, high: u32) -> Option<u32>
 
 // The field of these bits and this modulus, by the test of them.
 fn new_field(bits: u32, modulus: u32) -> Option<PolyField>
-    ensures { MatchOption result (is_modulus bits modulus ≡ false) (λ f. (is_modulus bits modulus ≡ true) × (f.bits ≡ bits) × (f.modulus ≡ modulus)) }
+    ensures { MatchOption result
+        (is_modulus bits modulus ≡ false)
+        (λ f. (is_modulus bits modulus ≡ true) × (f.bits ≡ bits) × (f.modulus ≡ modulus)) }
 {
     PolyField::new(bits, modulus)
 }
 
 // The field of two integers.
-#[tactic(auto, unfolding(crate::specs::Meaning::is_field))]
+#[tactic(auto, unfolding(crate::specs::Tests::is_field))]
 fn field_of(bits: i64, modulus: i64) -> Option<PolyField>
-    ensures { MatchOption result (is_field bits modulus ≡ false) (λ f. (is_field bits modulus ≡ true) × (f.bits ≡ nat bits) × (f.modulus ≡ nat modulus)) }
+    ensures { MatchOption result
+        (is_field bits modulus ≡ false)
+        (λ f. (is_field bits modulus ≡ true) × (f.bits ≡ nat bits) × (f.modulus ≡ nat modulus)) }
 {
     let bits = within(bits, 0, u32::MAX)?;
     let modulus = within(modulus, 0, u32::MAX)?;
@@ -45,33 +53,55 @@ fn field_of(bits: i64, modulus: i64) -> Option<PolyField>
 }
 
 // The weights of x and y, where they are those of a curve.
-#[tactic(auto, unfolding(crate::specs::Meaning::are_degrees))]
+#[tactic(auto, unfolding(crate::specs::Tests::are_degrees))]
 fn degrees_of(a: i64, b: i64) -> Option<Semi>
-    ensures { MatchOption result (are_degrees a b ≡ false) (λ s. (are_degrees a b ≡ true) × (s.a ≡ nat a) × (s.b ≡ nat b)) }
+    ensures { MatchOption result
+        (are_degrees a b ≡ false)
+        (λ s. (are_degrees a b ≡ true) × (s.a ≡ nat a) × (s.b ≡ nat b)) }
 {
     let a = within(a, 0, u32::MAX)?;
     let b = within(b, 0, u32::MAX)?;
     Semi::new(a, b)
 }
 
+// The rule, or the cause that refuses it.
+fn rule_of(rule: NamedRule) -> Result<CheckRule, DescCause>
+    ensures { MatchResult result
+        (λ r. (rule_refusal rule ≡ None) × (r ≡ plain_rule rule))
+        (λ c. rule_refusal rule ≡ Some c) }
+{
+    match rule {
+        NamedRule::Weight { number } => match within(number, 0, MOST_NUMBER) {
+            Some(weight) => Ok(CheckRule::AtMost { weight }),
+            None => Err(DescCause::BadWeight),
+        },
+        NamedRule::Improved { number } => match within(number, 0, MOST_NUMBER) {
+            Some(pairs) => Ok(CheckRule::Small { pairs }),
+            None => Err(DescCause::BadImproved),
+        },
+    }
+}
+
 /// What stands at the keys describes, or the first cause that refuses it.
-#[tactic(auto, unfolding(crate::specs::Meaning::named_refusals))]
+#[tactic(auto, unfolding(crate::specs::Tests::refusals))]
 pub fn descriptor(alloc: Global, named: &NamedParts) -> Result<Descriptor, DescError>
-    ensures meaning { MatchResult result (λ d. (first_of (named_refusals (named_of named.now)) ≡ None) × (parts_of d ≡ parts (named_of named.now)))
-        (λ e. IsRefusal e (first_of (named_refusals (named_of named.now)))) }
-    ensures descriptor { IfOk result IsDescriptor }
+    ensures { MatchResult result
+        (λ d. (first_of (refusals (named_of named.now)) ≡ None) × (d ≡ parts (named_of named.now)))
+        (λ e. IsRefusal e (first_of (refusals (named_of named.now)))) }
 {
     let field = field_of(named.bits, named.modulus).ok_or(DescCause::BadField)?;
     let degrees = degrees_of(named.a, named.b).ok_or(DescCause::BadDegrees)?;
     let curve = curve_of(alloc, &field, degrees, &named.terms)?;
     let points = points_of(alloc, &field, &curve, &named.points)?;
-    let weight = within(named.weight, 0, 65_535).ok_or(DescCause::BadWeight)?;
-    let depth = within(named.depth, 1, 64).ok_or(DescCause::BadDepth)?;
-    Ok(Descriptor {
+    let rule = rule_of(named.rule)?;
+    let packed = named.packed.ok_or(DescCause::BadLayout)?;
+    let depth = within(named.depth, 1, MOST_DEPTH).ok_or(DescCause::BadDepth)?;
+    Ok(Descriptor::new(Pieces {
         field,
-        curve,
+        space: Space::Cab { curve },
         points,
-        weight,
+        rule,
         depth,
-    })
+        packed,
+    }))
 }

@@ -1,5 +1,6 @@
-use super::{DescCause, DescError, KeyName, read};
+use super::{DescCause, DescError, KeyName, Space, read};
 use cab_curve::{Curve, Term};
+use eval_basis::CheckRule;
 use gf_field::{Field, PolyField};
 use std::alloc::Global;
 use std::process::Abort;
@@ -31,24 +32,47 @@ fn cause(rt: &impl Abort, alloc: Global, text: &[u8]) -> Option<DescCause> {
     }
 }
 
+// Whether the rule checks the functions with fewer pairs than this.
+fn is_small(rule: CheckRule, number: u32) -> bool {
+    match rule {
+        CheckRule::AtMost { .. } => false,
+        CheckRule::Small { pairs } => pairs == number,
+    }
+}
+
+// Whether the rule checks the functions up to this weight.
+fn is_at_most(rule: CheckRule, number: u32) -> bool {
+    match rule {
+        CheckRule::AtMost { weight } => weight == number,
+        CheckRule::Small { .. } => false,
+    }
+}
+
 #[test]
 fn reads_a_descriptor(rt: HostRuntime) -> Result<(), Fail> {
     let d = read(rt.alloc(), A.as_bytes())?;
-    assert_eq!(rt; (d.field.bits(), d.field.modulus()), (2, 7));
-    assert_eq!(rt;
-        (
-            d.curve.bits(),
-            d.curve.a(),
-            d.curve.b(),
-            d.curve.terms().len()
-        ),
-        (2, 2, 3, 3)
-    );
-    assert_eq!(rt;
-        d.points.as_slice(),
-        d.curve.all_points(rt.alloc(), &d.field)?.as_slice()
-    );
-    assert_eq!(rt; (d.weight, d.depth), (5, 1));
+    assert_eq!(rt; (d.field().bits(), d.field().modulus()), (2, 7));
+    match d.space() {
+        Space::Cab { curve } => {
+            let numbers = (curve.bits(), curve.a(), curve.b(), curve.terms().len());
+            assert_eq!(rt; numbers, (2, 2, 3, 3));
+            let points = curve.all_points(rt.alloc(), d.field())?;
+            assert_eq!(rt; d.points().as_slice(), points.as_slice());
+        }
+    }
+    assert!(rt; is_at_most(d.rule(), 5));
+    assert_eq!(rt; (d.depth(), d.is_packed()), (1, false));
+    Ok(())
+}
+
+#[test]
+fn reads_a_rule_by_pairs_and_a_packed_layout(rt: HostRuntime) -> Result<(), Fail> {
+    let alloc = rt.alloc();
+    let text = A.replace(alloc, "weight = 5", "improved = 3\nlayout = \"packed\"")?;
+    let pieces = read(alloc, text.as_bytes())?.into_pieces();
+    assert!(rt; is_small(pieces.rule, 3));
+    assert!(rt; pieces.packed);
+    assert_eq!(rt; (pieces.points.len(), pieces.depth), (8, 1));
     Ok(())
 }
 
@@ -71,12 +95,18 @@ fn refuses_in_order(rt: HostRuntime) -> Result<(), Fail> {
         ("[[0, 0], ", "[[0, 0, 0], ", key(KeyName::Points)),
         ("[[0, 0], ", "[[0], ", key(KeyName::Points)),
         ("weight = 5", "weight = 1e3", key(KeyName::Weight)),
+        ("weight = 5\n", "", key(KeyName::Weight)),
+        ("weight = 5", "weight = true\nimproved = 3", key(KeyName::Weight)),
+        ("weight = 5", "weight = 5\nimproved = 3", key(KeyName::Improved)),
+        ("weight = 5", "weight = 5\nimproved = true", key(KeyName::Improved)),
+        ("weight = 5", "improved = \"3\"", key(KeyName::Improved)),
+        ("weight = 5", "improved = [3]", key(KeyName::Improved)),
+        ("depth = 1\n", "layout = 1\ndepth = 1\n", key(KeyName::Layout)),
+        ("depth = 1\n", "layout = [\"packed\"]\n", key(KeyName::Layout)),
         ("depth = 1\n", "", key(KeyName::Depth)),
-        (
-            "depth = 1\n",
-            "depth = 1\nimproved = 3\n",
-            key(KeyName::Unknown),
-        ),
+        ("weight = 5\ndepth = 1\n", "layout = 1\n", key(KeyName::Weight)),
+        ("depth = 1\n", "depth = 1\nspace = 2\n", key(KeyName::Unknown)),
+        ("depth = 1\n", "depth = 1\nname = 1\n", key(KeyName::Unknown)),
         (
             "bits = 2\n",
             "bits = 2\nother = 3\nnested = [[[]]]\n",
@@ -113,6 +143,14 @@ fn refuses_in_order(rt: HostRuntime) -> Result<(), Fail> {
         ("[1, 2]", "[-1, 2]", point(2)),
         ("weight = 5", "weight = -1", DescCause::BadWeight),
         ("weight = 5", "weight = 65536", DescCause::BadWeight),
+        ("weight = 5", "improved = -1", DescCause::BadImproved),
+        ("weight = 5", "improved = 65536", DescCause::BadImproved),
+        ("weight = 5", "weight = 5\nlayout = \"raw\"", DescCause::BadLayout),
+        ("weight = 5", "weight = 5\nlayout = \"\"", DescCause::BadLayout),
+        ("weight = 5", "weight = 5\nlayout = \"Packed\"", DescCause::BadLayout),
+        ("weight = 5", "weight = -1\nlayout = \"raw\"", DescCause::BadWeight),
+        ("weight = 5", "improved = -1\nlayout = \"raw\"", DescCause::BadImproved),
+        ("depth = 1\n", "depth = 0\nlayout = \"raw\"\n", DescCause::BadLayout),
         ("depth = 1\n", "depth = 0\n", DescCause::BadDepth),
         ("depth = 1\n", "depth = 65\n", DescCause::BadDepth),
         (
@@ -143,6 +181,12 @@ fn accepts_the_edges(rt: HostRuntime) -> Result<(), Fail> {
             "[]",
         ),
         ("weight = 5", "weight = 65535"),
+        ("weight = 5", "weight = 0"),
+        ("weight = 5", "improved = 0"),
+        ("weight = 5", "improved = 9"),
+        ("weight = 5", "improved = 65535"),
+        ("weight = 5", "weight = 5\nlayout = \"bytes\""),
+        ("weight = 5", "weight = 5\nlayout = \"packed\""),
         ("depth = 1\n", "depth = 64\n"),
         ("weight = 5\n", "weight = 0x5 # hexadecimal\n"),
     ];
@@ -155,7 +199,7 @@ fn accepts_the_edges(rt: HostRuntime) -> Result<(), Fail> {
 }
 
 #[test]
-fn takes_no_more_than_512_points(rt: HostRuntime) -> Result<(), Fail> {
+fn takes_no_more_than_1024_points(rt: HostRuntime) -> Result<(), Fail> {
     let alloc = rt.alloc();
     let f = PolyField::new(8, 283).expect(&rt, "irreducible");
     // y¹⁶ + y = x¹⁷ has 4,096 points.
@@ -165,15 +209,15 @@ fn takes_no_more_than_512_points(rt: HostRuntime) -> Result<(), Fail> {
         alloc,
         "bits = 8\nmodulus = 283\na = 16\nb = 17\nweight = 0\ndepth = 1\nterms = [[0, 16, 1], [0, 1, 1], [17, 0, 1]]\npoints = [",
     )?;
-    for point in points.iter().take(512) {
+    for point in points.iter().take(1_024) {
         text.push_str(format!(in alloc; "[{}, {}],", point.x, point.y)?.as_str())?;
     }
     let mut longer = text.clone()?;
     text.push_str("]\n")?;
     assert_eq!(rt; cause(&rt, alloc, text.as_bytes()), None);
-    let next = points.get(512).copied().expect(&rt, "one more");
+    let next = points.get(1_024).copied().expect(&rt, "one more");
     longer.push_str(format!(in alloc; "[{}, {}]]\n", next.x, next.y)?.as_str())?;
-    assert_eq!(rt; cause(&rt, alloc, longer.as_bytes()), Some(point(512)));
+    assert_eq!(rt; cause(&rt, alloc, longer.as_bytes()), Some(point(1_024)));
     Ok(())
 }
 

@@ -1,5 +1,5 @@
 use Rattle.std.proofs.Common.{◌≡◌, ℕ, ◌<◌, true, map, take}
-use Rattle.code_descriptor.specs.Meaning.{plain_term, named_term_at}
+use Rattle.code_descriptor.specs.Tests.{plain_term, named_term_at}
 use Rattle.code_descriptor.specs.Views.{fits_term}
 use Rattle.code_descriptor.proofs.curves.plain_terms.Given as goal
 

@@ -1,5 +1,5 @@
 use Rattle.std.proofs.Common.{◌≡◌, drop}
-use Rattle.code_descriptor.specs.Meaning.{has_point}
+use Rattle.code_descriptor.specs.Tests.{has_point}
 use Rattle.code_descriptor.proofs.points.has_point.Given as goal
 
 abbrev pub invariant-loop-other : goal.invariant-loop-other

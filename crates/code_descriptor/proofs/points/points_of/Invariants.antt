@@ -1,10 +1,10 @@
 use Rattle.std.proofs.Common.{◌≡◌, None, map, take}
 use Rattle.cab_curve.specs.First.{least}
-use Rattle.code_descriptor.specs.Meaning.{is_bad_point, plain_point}
+use Rattle.code_descriptor.specs.Tests.{is_bad_point, plain_point}
 use Rattle.code_descriptor.proofs.points.points_of.Given as goal
 
 abbrev pub invariant-loop-k : goal.invariant-loop-k
 invariant-loop-k l = record {
   none : least l.k (is_bad_point l.field.bits l.field.modulus l.curve.terms l.points) ≡ None;
-  items : l.plain.items ≡ map plain_point (take l.k l.points);
+  items : l.plain ≡ map plain_point (take l.k l.points);
 }
