@@ -5,6 +5,7 @@
 ghost use Rattle.std.specs.Prelude.{◌≡◌, ◌<◌, ◌≤◌, ◌^◌, length, All, IfOk};
 ghost use Rattle.gf_linear.specs.Matrix.{IsOver};
 
+use ag_pool::Workers;
 use anyhow::{Context, Result, ensure};
 use gf_field::PolyField;
 use gf_linear::{Matrix, dual_of, rank};
@@ -69,26 +70,16 @@ fn checksum(m: &Matrix) -> u32 {
 }
 
 // Puts 1 on the diagonal, place by place, and clears its column.
-fn clear_all<X: Threads + Sync>(rt: &X, f: &TableField, m: &mut Matrix, workers: u32)
+fn clear_all<X: Threads + Sync>(rt: &X, f: &TableField, m: &mut Matrix, workers: Workers)
     requires square { length m.old.rows ≡ m.old.cols }
     requires bits { f.now.bits ≡ 6 }
     requires symbols { IsOver 6 m.old }
-    requires least { 1 ≤ workers }
-    requires most { workers ≤ 64 }
 {
     for k in 0..m.rows() {
         m.cols();
         m.set(k, k, 1);
         m.clear_column(rt, f, k, k, workers);
     }
-}
-
-// A number of threads.
-#[derive(Drop)]
-struct Workers {
-    count: u32,
-    ghost least: { 1 ≤ count },
-    ghost most: { count ≤ 64 },
 }
 
 // What to do with each matrix; columns are cleared in so many threads.
@@ -104,8 +95,8 @@ impl Task {
         match name {
             "rank" => Some(Task::Rank),
             "dual" => Some(Task::Dual),
-            "clear" if 1 <= workers && workers <= 64 => Some(Task::Clear {
-                workers: Workers { count: workers },
+            "clear" => Some(Task::Clear {
+                workers: Workers::new(workers)?,
             }),
             _ => None,
         }
@@ -127,7 +118,7 @@ impl Task {
             Task::Rank => rank(alloc, f, m),
             Task::Dual => Ok(dual_of(alloc, f, m)?.map_or(0, |duals| checksum(&duals))),
             Task::Clear { workers } => {
-                clear_all(rt, f, m, workers.count);
+                clear_all(rt, f, m, *workers);
                 Ok(checksum(m))
             }
         }
