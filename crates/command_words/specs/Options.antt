@@ -99,7 +99,8 @@ with_flag s Salvage = record s { salvage = true }
 
 unfoldable pub number_in : ℕ → ℕ → List ℕ → Option ℕ
 number_in least greatest text =
-    if is_numeral text && (nat_le least (value_of text) && nat_le (value_of text) greatest) then Some (value_of text) else None
+    if is_numeral text && (nat_le least (value_of text) && nat_le (value_of text) greatest)
+    then Some (value_of text) else None
 
 abbrev pub value_in : OptionName → List ℕ → Option ℕ
 value_in name text = number_in (least_of name) (greatest_of name) text

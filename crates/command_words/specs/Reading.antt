@@ -5,8 +5,8 @@
 -- name_part        what stands before the first `=`
 -- value_part       what stands after the first `=`
 -- with_value       settings with a value, where there is one
--- added_to         some settings with an option and the value that a text writes, where the command has that option, it is
---                  built, it is not written yet and the text writes a value in its range
+-- added_to         some settings with an option and the value that a text writes, where the command has that option, it
+--                  is built, it is not written yet and the text writes a value in its range
 -- added            the same, by the word that names the option
 -- flagged          some settings with a flag, where the command has it, it is built and not written yet
 -- flagged_by       the same, where a flag is named
@@ -70,7 +70,8 @@ with_value s name (Some v) = Some (with_setting s name v)
 abbrev pub added_to : Command → Settings → Option OptionName → List ℕ → Option Settings
 added_to command s None text = None
 added_to command s (Some name) text =
-    if (has_option command name && is_option_built name) && is_none (setting_of s name) then with_value s name (value_in name text) else None
+    if (has_option command name && is_option_built name) && is_none (setting_of s name)
+    then with_value s name (value_in name text) else None
 
 unfoldable pub added : Command → Settings → List ℕ → List ℕ → Option Settings
 added command s name text = added_to command s (option_named name) text
