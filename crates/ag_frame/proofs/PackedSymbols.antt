@@ -1,15 +1,16 @@
 -- Packed symbols one by one: what is read, what a write changes, and what the loops over a group have done.
-use Rattle.std.proofs.Common.{ℕ, ◌+◌, ◌-◌, ◌*◌, ◌^◌, ◌<◌, ◌≤◌, ◌≡◌, ◌≢◌, Bool, true, false, List, [], ◌∷◌, ◌++◌, length, get_or, set, take, drop, replicate, All, refl, sym, ap, ap₂, ◌∙◌, arith, inl, inr, ext_get_or, length-take-le, take-append-drop, drop-drop, append-nil, mul-le-mul_right, mul-pos, mod-eq_of_lt, zero-mul, take_all, length-drop}
+use Rattle.std.proofs.Common.{ℕ, length-take, ◌+◌, ◌-◌, ◌*◌, ◌^◌, ◌<◌, ◌≤◌, ◌≡◌, ◌≢◌, Bool, true, false, List, [], ◌∷◌, ◌++◌, length, get_or, set, take, drop, replicate, All, sym, ap, ap₂, ◌∙◌, arith, inl, inr, ext_get_or, length-take-le, take-append-drop, drop-drop, append-nil, mul-le-mul_right, mul-pos, mod-eq_of_lt, zero-mul, take_all, length-drop}
 use borrow.Rule.Slice.PartMut.{put_mid}
 use Rattle.std.proofs.lemmas.Slice.{take-put_mid, take-put_mid_below, drop-put_mid}
 use Rattle.std.proofs.lemmas.Bool.{cases_eq, cases_lt}
 use Rattle.std.proofs.lemmas.List.{get_or-map, get_or-set_same, get_or-set_other, length-set, take_at, drop_at, drop-take, take_more, drop-replicate, nil_from_length}
 use Rattle.std.proofs.lemmas.List.Concat.{flat_map-append}
+use Rattle.std.proofs.Math.Nat.{pow-le-pow_right}
 use Rattle.std.proofs.Math.Seq.{drop-append-add}
 use Rattle.stored_form.specs.Bits.{bits_of, number_of, pieces, bits_of_symbols, symbols_of}
 use Rattle.stored_form.specs.Symbols.{stored_size, byte_fill, fill_bits, packed_bytes, packed_symbols, stored_symbols, symbol_values}
 use Rattle.stored_form.proofs.Lists.{length-pieces, get_or-pieces}
-use Rattle.stored_form.proofs.BitsLemmas.{length-bits_of, length-bits_of_symbols, number_of-bits_of, symbols_of-bits_of_symbols}
+use Rattle.stored_form.proofs.BitsLemmas.{number_of_below, length-bits_of, length-bits_of_symbols, number_of-bits_of, symbols_of-bits_of_symbols}
 use Rattle.stored_form.proofs.SymbolLemmas.{length-packed_symbols, packed_symbols-front}
 use Rattle.ag_frame.specs.Packing.{symbol_in, with_symbol}
 use Rattle.ag_frame.specs.Layouts.{fill_at}
@@ -24,6 +25,19 @@ packed_symbols-at width count i bytes below =
 pub stored_symbols-at : (packed : Bool) (width count i : ℕ) (bytes : List ℕ) → packed ≡ true → i < count → symbol_in (i * width) width (bits_of_symbols 8 bytes) ≡ get_or (stored_symbols packed width count bytes) i 0
 stored_symbols-at true width count i bytes is below = packed_symbols-at width count i bytes below
 stored_symbols-at false width count i bytes is below = absurd (cc)
+
+pub length-stored_symbols : (packed : Bool) (width count : ℕ) (bytes : List ℕ) → length bytes ≡ stored_size packed width count → length (stored_symbols packed width count bytes) ≡ count
+length-stored_symbols true width count bytes long = length-packed_symbols width count bytes
+length-stored_symbols false width count bytes long = long
+
+symbol_in_below : (at width : ℕ) (bits : List Bool) → symbol_in at width bits < 2 ^ width
+symbol_in_below at width bits =
+    let most : 2 ^ length (take width (drop at bits)) ≤ 2 ^ width = pow-le-pow_right (omega arith) (omega (arith, length-take width (drop at bits))) in
+    omega (arith, number_of_below (take width (drop at bits)))
+
+pub stored_symbol_below : (packed : Bool) (width at : ℕ) (bits : List Bool) → packed ≡ true → symbol_in at width bits < symbol_values packed width
+stored_symbol_below true width at bits is = symbol_in_below at width bits
+stored_symbol_below false width at bits is = absurd (cc)
 
 -- ---- a symbol written
 as_put_mid : (at width symbol : ℕ) (bits : List Bool) → with_symbol at width symbol bits ≡ put_mid at width bits (bits_of width symbol)
@@ -94,11 +108,6 @@ fill-put true width count i symbol old new is below long e =
     let room : (i + 1) * width ≤ count * width = mul-le-mul_right width (let h : i + 1 ≤ count = omega arith in h) in
     ap (drop (count * width)) e ∙ drop-with_symbol (i * width) width symbol (count * width) (bits_of_symbols 8 old) (omega arith) (omega (arith, length-bits_of_symbols 8 old))
 fill-put false width count i symbol old new is below long e = absurd (cc)
-
--- in layout bytes there is no fill bit
-pub fill-bytes : (packed : Bool) (width count : ℕ) (old new : List ℕ) → packed ≡ false → fill_at packed width count new ≡ fill_at packed width count old
-fill-bytes true width count old new is = absurd (cc)
-fill-bytes false width count old new is = refl
 
 -- ---- the loops that pack a group
 -- the first i symbols are written, and the fill bits are 0

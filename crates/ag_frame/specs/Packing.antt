@@ -1,5 +1,5 @@
 -- Packed symbols.
--- IsPackedGroup w n d       the numbers of a group of packed symbols that may be: d codewords of n symbols of w bits
+-- IsPackedGroup w n d       numbers of a group of packed symbols: d codewords of n symbols of w bits
 -- symbol_in a w bits        the symbol that the w bits from place a write
 -- with_symbol a w s bits    the bits with those of the symbol s in their place
 use Rattle.std.specs.Prelude.{ℕ, ◌+◌, ◌≤◌, Bool, List, ◌++◌, take, drop}

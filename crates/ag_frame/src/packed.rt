@@ -66,7 +66,8 @@ pub fn put_packed(width: u32, at: usize, symbol: u8, bytes: &mut [u8])
     requires width_least { 1 ≤ width }
     requires width_most { width ≤ 8 }
     requires inside { at + width ≤ 8 * length bytes.old }
-    ensures { bits_of_symbols 8 bytes.new ≡ with_symbol at width symbol (bits_of_symbols 8 bytes.old) }
+    ensures { bits_of_symbols 8 bytes.new
+        ≡ with_symbol at width symbol (bits_of_symbols 8 bytes.old) }
 {
     let byte = at / 8;
     let from = (at % 8) as u32;

@@ -8,7 +8,7 @@ use Rattle.stored_form.specs.Frame.{group_blocks, group_bytes, image}
 use Rattle.stored_form.specs.Reading.{blocks, differences, block_changes, IsNearImage}
 use Rattle.stored_form.proofs.ImageLemmas.{length-blocks, All-long-blocks}
 use Rattle.stored_form.proofs.Theorems.{file_law, change_law}
-use Rattle.ag_trial.specs.Damage.{damaged_words, changes_in, total_distance, text_words, TrialLaw}
+use Rattle.ag_trial.specs.Damage.{damaged_words, total_distance, text_words, TrialLaw}
 use Rattle.ag_trial.proofs.Counts.{total_distance-damaged, each_near}
 
 -- ---- tests of numbers that start elsewhere
@@ -79,7 +79,8 @@ count-differences_all F (y ∷ ys) (c ∷ cs) e long_y long_c =
     length-append (block_changes F 0 y c) _ ∙ omega arith
 
 -- ---- the theorem
-pub words-blocks : (F : Form) (z : List ℕ) → text_words F.n F.depth z ≡ blocks F z
+-- the words of a text in the layout of a form are its blocks
+pub words-blocks : (F : Form) (z : List ℕ) → text_words F.packed F.bits F.n F.depth z ≡ blocks F z
 unfolding blocks group_blocks
 words-blocks F z = refl
 
@@ -90,12 +91,9 @@ long_enough : (F : Form) (t : ℕ) (z : List ℕ) → t ≤ F.n → All (λ w. t
 long_enough F t z h = λ k d l. omega (arith, All-long-blocks F z k d l)
 
 pub trial_law : TrialLaw
-trial_law F t x z g sound file radius few long words =
+trial_law F t x z g sound file radius few long after =
     let size : ℕ = 2 ^ F.bits in
     let ws : List (List ℕ) = blocks F (image F x) in
-    let before : text_words F.n F.depth (image F x) ≡ blocks F (image F x) = words-blocks F (image F x) in
-    let after : blocks F z ≡ (damaged_words (2 ^ F.bits) t (blocks F (image F x)) g).0 =
-    sym (words-blocks F z) ∙ words ∙ ap (λ (vs : List (List ℕ)). (damaged_words (2 ^ F.bits) t vs g).0) before in
     let count : length (blocks F z) ≡ length (blocks F (image F x)) =
     length-blocks F z ∙ ap (λ (n : ℕ). n / group_bytes F * F.depth) long ∙ sym (length-blocks F (image F x)) in
     let enough = long_enough F t (image F x) few in
@@ -115,6 +113,5 @@ trial_law F t x z g sound file radius few long words =
           ap length (change_law F x z sound file near)
           ∙ count-differences_all F (blocks F z) (blocks F (image F x)) count (All-long-blocks F z) (All-long-blocks F (image F x))
           ∙ ap (λ (vs : List (List ℕ)). total_distance vs (blocks F (image F x))) after
-          ∙ total_distance-damaged (2 ^ F.bits) t (blocks F (image F x)) g two enough
-          ∙ ap (λ (vs : List (List ℕ)). changes_in (2 ^ F.bits) t vs g) (sym before);
+          ∙ total_distance-damaged (2 ^ F.bits) t (blocks F (image F x)) g two enough;
     }

@@ -3,14 +3,14 @@
 //! drawn, in which order, stands in specs/Words and specs/Damage. No call takes memory.
 #![tactic(auto)]
 
-ghost use Rattle.std.specs.Prelude.{ℕ, ◌≡◌, ◌≢◌, ◌+◌, ◌*◌, ◌%◌, ◌^◌, ◌<◌, ◌≤◌, length, slice_index_or, []};
+ghost use Rattle.std.specs.Prelude.{true, ℕ, ◌≡◌, ◌≢◌, ◌+◌, ◌*◌, ◌%◌, ◌^◌, ◌<◌, ◌≤◌, length, slice_index_or, []};
 ghost use Rattle.stored_form.specs.Form.{distance};
-ghost use Rattle.stored_form.specs.Group.{block_at, gather};
-ghost use Rattle.ag_frame.specs.Layouts.{IsLayout, bytes_in_group};
+ghost use Rattle.ag_frame.specs.Layouts.{IsLayout, bytes_in_group, words_of_group, fill_of_group};
 ghost use Rattle.ag_trial.specs.Words.{trial_of, drawn, after_draw, file_bytes, after_bytes};
-ghost use Rattle.ag_trial.specs.Damage.{damaged, damaged_words, changes_in, total_distance, text_words, DamageLaw, TrialLaw};
+ghost use Rattle.ag_trial.specs.Damage.{damaged, total_distance, DamageLaw, TrialLaw};
+ghost use Rattle.ag_trial.specs.Groups.{word_of_group, words_of_text, fill_of_text, group_damage, group_changes, text_damage, text_changes};
 
-use ag_frame::Layout;
+use ag_frame::{Layout, put_symbol, symbol_at};
 use rand_core::SeedableRng;
 use rand_core::utils::NextWord;
 use rand_pcg::Lcg64Xsh32;
@@ -30,7 +30,7 @@ impl Model for Trial {
     ghost view = { λ t. t.words };
 }
 
-/// In each codeword exactly as many bytes are changed as were drawn for it, at distinct positions, and at most t. The
+/// In each codeword exactly as many stored symbols are changed as were drawn for it, at distinct positions, and at most t. The
 /// contract is the theorem.
 pub fn damage_is_as_drawn()
     ensures { DamageLaw }
@@ -82,17 +82,19 @@ impl Trial {
         }
     }
 
-    // Changes up to `t` bytes of codeword `c` of the group, and answers how many.
+    // Changes up to `t` stored symbols of codeword `c` of the group, and answers how many.
     fn damage_word(&mut self, layout: &Layout, t: u32, c: usize, group: &mut [u8]) -> u32
         requires layout { IsLayout layout.now }
         requires t { t ≤ layout.now.n }
         requires c { c < layout.now.depth }
         requires long { length group.old ≡ bytes_in_group layout.now }
-        ensures word { block_at layout.now.n layout.now.depth group.new c
-            ≡ (damaged (2 ^ layout.now.bits) t (block_at layout.now.n layout.now.depth group.old c) self.old).0 }
+        ensures word { word_of_group layout.now group.new c
+            ≡ (damaged (2 ^ layout.now.bits) t (word_of_group layout.now group.old c) self.old).0 }
         ensures others { (k : ℕ) → k < layout.now.depth → k ≢ c
-            → block_at layout.now.n layout.now.depth group.new k ≡ block_at layout.now.n layout.now.depth group.old k }
-        ensures rest { self.new ≡ (damaged (2 ^ layout.now.bits) t (block_at layout.now.n layout.now.depth group.old c) self.old).1 }
+            → word_of_group layout.now group.new k ≡ word_of_group layout.now group.old k }
+        ensures fill { fill_of_group layout.now group.new ≡ fill_of_group layout.now group.old }
+        ensures rest { self.new
+            ≡ (damaged (2 ^ layout.now.bits) t (word_of_group layout.now group.old c) self.old).1 }
         ensures changes { result ≡ drawn (t + 1) self.old }
         ensures small { result ≤ t }
     {
@@ -101,28 +103,33 @@ impl Trial {
         for p in 0..layout.n {
             if self.draw(layout.n - p) < left {
                 let change = 1 + self.draw((1 << layout.bits) - 1);
-                group[(p * layout.depth) as usize + c] ^= change as u8;
+                let place = (p * layout.depth) as usize + c;
+                let symbol = symbol_at(layout, place, group) ^ change as u8;
+                put_symbol(layout, place, symbol, group);
                 left -= 1;
             }
         }
         changes
     }
 
-    /// Changes up to `t` bytes in each codeword of a stored group, and answers how many in all.
+    /// Changes up to `t` stored symbols in each codeword of a stored group, and answers how many in all. Its fill bits stay
+    /// as they are.
     pub fn damage_group(&mut self, layout: &Layout, t: u32, group: &mut [u8]) -> u32
         requires layout { IsLayout layout.now }
         requires t { t ≤ layout.now.n }
         requires long { length group.old ≡ bytes_in_group layout.now }
-        ensures words { gather layout.now.n layout.now.depth group.new
-            ≡ (damaged_words (2 ^ layout.now.bits) t (gather layout.now.n layout.now.depth group.old) self.old).0 }
-        ensures rest { self.new ≡ (damaged_words (2 ^ layout.now.bits) t (gather layout.now.n layout.now.depth group.old) self.old).1 }
-        ensures drawn { result ≡ changes_in (2 ^ layout.now.bits) t (gather layout.now.n layout.now.depth group.old) self.old }
+        ensures words { words_of_group layout.now group.new
+            ≡ (group_damage layout.now t group.old self.old).0 }
+        ensures fill { fill_of_group layout.now group.new ≡ fill_of_group layout.now group.old }
+        ensures rest { self.new ≡ (group_damage layout.now t group.old self.old).1 }
+        ensures drawn { result ≡ group_changes layout.now t group.old self.old }
 
-        // What follows from the three above: how far the words are from those before.
-        ensures changes { result ≡ total_distance (gather layout.now.n layout.now.depth group.new) (gather layout.now.n layout.now.depth group.old) }
+        // What follows from these: how far the words are from those before.
+        ensures changes { result
+            ≡ total_distance (words_of_group layout.now group.new) (words_of_group layout.now group.old) }
         ensures small { result ≤ layout.now.depth * t }
         ensures near { (c : ℕ) → c < layout.now.depth
-            → distance (block_at layout.now.n layout.now.depth group.new c) (block_at layout.now.n layout.now.depth group.old c) ≤ t }
+            → distance (word_of_group layout.now group.new c) (word_of_group layout.now group.old c) ≤ t }
     {
         let mut changes = 0;
         for c in 0..layout.depth {
@@ -131,15 +138,18 @@ impl Trial {
         changes
     }
 
-    /// Changes up to `t` bytes in each codeword of a text of whole groups, group after group, and answers how many in all.
+    /// Changes up to `t` stored symbols in each codeword of a text of whole groups, group after group, and answers how many
+    /// in all. Its fill bits stay as they are. There may be four packed symbols in a byte, so that the number fits where the text is below 2^62 bytes.
     pub fn damage_text(&mut self, layout: &Layout, t: u32, text: &mut [u8]) -> u64
         requires layout { IsLayout layout.now }
         requires t { t ≤ layout.now.n }
         requires whole { length text.old % bytes_in_group layout.now ≡ 0 }
-        ensures words { text_words layout.now.n layout.now.depth text.new
-            ≡ (damaged_words (2 ^ layout.now.bits) t (text_words layout.now.n layout.now.depth text.old) self.old).0 }
-        ensures rest { self.new ≡ (damaged_words (2 ^ layout.now.bits) t (text_words layout.now.n layout.now.depth text.old) self.old).1 }
-        ensures drawn { result ≡ changes_in (2 ^ layout.now.bits) t (text_words layout.now.n layout.now.depth text.old) self.old }
+        requires few { layout.now.packed ≡ true → length text.old < 2 ^ 62 }
+        ensures words { words_of_text layout.now text.new
+            ≡ (text_damage layout.now t text.old self.old).0 }
+        ensures fill { fill_of_text layout.now text.new ≡ fill_of_text layout.now text.old }
+        ensures rest { self.new ≡ (text_damage layout.now t text.old self.old).1 }
+        ensures drawn { result ≡ text_changes layout.now t text.old self.old }
     {
         let size = layout.group_bytes() as usize;
         let mut changes = 0;
@@ -181,6 +191,7 @@ mod tests {
             k: 3,
             bits: 8,
             depth: 2,
+            packed: false,
         };
         let mut trial = Trial::new(6);
         let mut group = [0; 16];
@@ -194,6 +205,40 @@ mod tests {
         assert_eq!(rt; group, damaged);
     }
 
+    // Three bits a symbol: the two fill bits stay.
+    #[test]
+    fn damages_a_packed_group(rt: HostRuntime) {
+        let layout = Layout {
+            n: 5,
+            k: 2,
+            bits: 3,
+            depth: 2,
+            packed: true,
+        };
+        let mut trial = Trial::new(7);
+        let mut group = [5, 57, 119, 7];
+        assert_eq!(rt; trial.damage_group(&layout, 5, &mut group), 9);
+        assert_eq!(rt; group, [245, 209, 47, 107]);
+        assert_eq!(rt; trial.byte(), 55);
+    }
+
+    // Two groups of one codeword, each with a fill bit.
+    #[test]
+    fn damages_a_packed_text(rt: HostRuntime) {
+        let layout = Layout {
+            n: 5,
+            k: 2,
+            bits: 3,
+            depth: 1,
+            packed: true,
+        };
+        let mut trial = Trial::new(7);
+        let mut text = [250, 199, 5, 57];
+        assert_eq!(rt; trial.damage_text(&layout, 5, &mut text), 9);
+        assert_eq!(rt; text, [28, 241, 157, 191]);
+        assert_eq!(rt; trial.byte(), 55);
+    }
+
     // The codewords of the group above, as two groups of one codeword each.
     #[test]
     fn damages_a_text(rt: HostRuntime) {
@@ -202,6 +247,7 @@ mod tests {
             k: 3,
             bits: 8,
             depth: 1,
+            packed: false,
         };
         let mut trial = Trial::new(6);
         let mut text = [0; 16];
