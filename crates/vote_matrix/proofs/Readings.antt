@@ -130,6 +130,10 @@ residue_seen bits modulus n count entries factors known pivot number rows invers
 pub answer_no : (P : Type 0) → (P → ⊥) → (IsTrue false → P) × (P → IsTrue false)
 answer_no P d = (λ f. absurd (both_ways false refl f), λ p. absurd (d p))
 
+-- a test that was false
+pub not_past : (j x : ℕ) → (x < j → IsTrue false) → j ≤ x
+not_past j x h = elim (cases_lt x j) [ inl l ↦ absurd (let e : IsTrue false = h l in cc) | inr l ↦ l ]
+
 pub answer_leb : (P : Type 0) (a b : ℕ) → (a ≤ b → P) → (P → a ≤ b) → (IsTrue (leb a b) → P) × (P → IsTrue (leb a b))
 answer_leb P a b f g = (λ t. f (leb-true a b t), λ p. le-leb a b (g p))
 
