@@ -1,6 +1,8 @@
 -- The candidates that voted for the winner are settled, row by row
 use Rattle.std.proofs.Common.{ℕ, ◌≡◌, suc, ◌+◌, ◌^◌, ◌<◌, ◌≤◌, true, eqb, List, refl, sym, ◌∙◌, ap, subst, arith, add-one, bit_xor, eqb-true, length, get_or}
-use Rattle.std.specs.Prelude.{slice_index}
+use Rattle.std.specs.Prelude.{slice_index, Option, Some, None, nat_eq}
+use Rattle.std.specs.Option.{option_eq}
+use Rattle.std.proofs.lemmas.List.{get_or_read_under}
 use Rattle.std.proofs.lemmas.Bool.{and_parts}
 use Rattle.field_theory.proofs.Sums.{xor_below, xor_cancel}
 use Rattle.std.proofs.lemmas.Nat.{xor_comm}
@@ -15,7 +17,7 @@ use Rattle.order_theory.proofs.Theorems.{step_law, known_law, vote_law, vote_onc
 use Rattle.vote_matrix.specs.Matrix.{Matrix, IsSettled, MaySettle, IsCandidate, KeepsRank, settled_at}
 use Rattle.vote_matrix.proofs.Agreement.{right_keeps}
 use Rattle.vote_matrix.proofs.Settles.{read_at}
-use Rattle.vote_core.specs.Advance.{IsAdvanced, HasHere, HasVote, AreVotes}
+use Rattle.vote_core.specs.Advance.{IsAdvanced, HasHere, HasVote, RowVotes, AreVotes}
 use Rattle.vote_core.proofs.Courses.{moved_same}
 use Rattle.vote_core.proofs.Settled.{only_column, advanced_later, advanced_moved, advanced_put, put_grows, put_there}
 use Rattle.vote_core.proofs.RowVoting.{IsKnownBelow, agree, ranks_are, next_known, candidate_known}
@@ -131,11 +133,15 @@ module _ (b : Basis) (w w' : List ℕ) (m0 : Matrix) (k v : ℕ) (h : IsSoundBas
               same = λ a l u. put_there b w' m (rank_at b k + 1) 0 c.part i j x li lj e confirmed_next less lx confirmed_value a (λ f. omega arith) ∙ c.same a (omega arith) u;
             }
 
+-- the test of an option that is some
+option_is : (o : Option ℕ) (v : ℕ) → option_eq nat_eq o (Some v) ≡ true → o ≡ Some v
+option_is None v e = absurd (cc)
+option_is (Some x) v e = ap (λ (y : ℕ). Some y) (eqb-true x v e)
+
 -- the vote that stands in a list
-pub vote_in : (b : Basis) (w votes : List ℕ) (k i x v y : ℕ) → AreVotes b w k votes b.n → i < b.n → length votes ≡ b.n → x ≡ get_or votes i x → x ≡ y → y ≡ v → v < 2 ^ b.bits → HasVote b w k i v
-vote_in b w votes k i x v y all li long e f g symbol =
-    let is : slice_index votes i ≡ v = sym (read_at votes i b.n x e li long) ∙ f ∙ g in
-    subst (λ (q : ℕ). HasVote b w k i q) is (all.at i li (omega arith))
+pub vote_in : (b : Basis) (w : List ℕ) (votes : List (Option ℕ)) (k i v : ℕ) (o : Option ℕ) → AreVotes b w k votes b.n → i < b.n → length votes ≡ b.n → o ≡ get_or votes i o → option_eq nat_eq o (Some v) ≡ true → HasVote b w k i v
+vote_in b w votes k i v o all li long e f =
+    subst (λ (o : Option ℕ). RowVotes b w k i o) (sym (get_or_read_under votes i b.n o None e li (sym long)) ∙ option_is o v f) (all.at i li)
 
 -- the entry that stands in a list
 pub here_in : (b : Basis) (w : List ℕ) (m0 : Matrix) (k i j x : ℕ) (here : List ℕ) → HasHere b w m0 (rank_at b k) here b.n → i < b.n → length here ≡ b.n → x ≡ get_or here i x → j ≡ slice_index m0.known i → j < b.n → sum_at b i j ≡ rank_at b k

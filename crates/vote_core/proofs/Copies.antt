@@ -1,6 +1,6 @@
 -- Entries that are the same, and those that were written down
 use Rattle.std.proofs.Common.{ℕ, ◌≡◌, ◌≢◌, ◌+◌, ◌^◌, ◌<◌, List, length, get_or, set, sym, ◌∙◌, ap, subst, inl, inr, arith, replicate}
-use Rattle.std.specs.Prelude.{slice_index}
+use Rattle.std.specs.Prelude.{slice_index, Some}
 use Rattle.std.proofs.lemmas.Bool.{cases_eq}
 use Rattle.std.proofs.lemmas.Nat.{pow_pos}
 use Rattle.std.proofs.lemmas.List.{get_or-set_same, get_or-set_other, length-set}
@@ -10,7 +10,9 @@ use Rattle.order_theory.specs.Errors.{entry}
 use Rattle.vote_matrix.specs.Matrix.{Matrix, IsSettled, cell}
 use Rattle.vote_matrix.proofs.Places.{below_replicate}
 use Rattle.vote_core.specs.Advance.{IsAdvanced, HasHere}
-use Rattle.vote_core.specs.Shifts.{HasShift, IsSource}
+use Rattle.vote_matrix.specs.Held.{slots}
+use Rattle.vote_matrix.proofs.Slots.{length-slots, slot_at}
+use Rattle.vote_core.specs.Shifts.{HasShift, AreProducts, IsSource}
 use Rattle.vote_core.specs.declared.shifts.Shift.{Shift}
 use Rattle.vote_core.proofs.Entries.{all_below}
 
@@ -26,10 +28,10 @@ entry_shifts b w g i j i' j' h row column =
     ∙ ap (λ (x : ℕ). times b (vector b i' p) x) (column p l)))
 
 -- the place that the products with one member lead to
-pub source_of : (b : Basis) (shift : Shift) (i j i' j' : ℕ) → IsSoundBasis b → HasShift b shift → i < b.n → j < b.n
-    → i' ≡ slice_index shift.back.items i → j' ≡ slice_index shift.next.items j → i' < b.n → j' < b.n → IsSource b i j i' j'
-source_of b shift i j i' j' h s li lj e1 e2 l1 l2 =
-    let leads : slice_index shift.next.items i' ≡ i = ap (λ (q : ℕ). slice_index shift.next.items q) e1 ∙ s.forth i li (omega (arith, e1)) in
+source_at : (b : Basis) (next back : List ℕ) (i j i' j' : ℕ) → IsSoundBasis b → AreProducts b next back → i < b.n → j < b.n
+    → i' ≡ slice_index back i → j' ≡ slice_index next j → i' < b.n → j' < b.n → IsSource b i j i' j'
+source_at b next back i j i' j' h s li lj e1 e2 l1 l2 =
+    let leads : slice_index next i' ≡ i = ap (λ (q : ℕ). slice_index next q) e1 ∙ s.forth i li (omega (arith, e1)) in
     record {
       row = l1;
       column = l2;
@@ -37,6 +39,13 @@ source_of b shift i j i' j' h s li lj e1 e2 l1 l2 =
           (λ p l. s.products i' l1 (omega (arith, leads)) p l ∙ ap (λ (q : ℕ). vector b q p) leads)
           (λ p l. s.products j lj (omega (arith, e2)) p l ∙ ap (λ (q : ℕ). vector b q p) (sym e2));
     }
+
+pub source_of : (b : Basis) (shift : Shift) (i j i' j' : ℕ) → IsSoundBasis b → HasShift b shift → i < b.n → j < b.n
+    → Some i' ≡ get_or shift.back.items i (Some i') → Some j' ≡ get_or shift.next.items j (Some j') → IsSource b i j i' j'
+source_of b shift i j i' j' h s li lj e1 e2 =
+    let row = slot_at b.n shift.back.items i b.n (Some i') e1 li (length-slots b.n shift.back.items ∙ s.room.n_back) s.back_low in
+    let column = slot_at b.n shift.next.items j b.n (Some j') e2 lj (length-slots b.n shift.next.items ∙ s.room.n_next) s.next_low in
+    source_at b (slots b.n shift.next.items) (slots b.n shift.back.items) i j i' j' h s.products li lj (sym row.same) (sym column.same) row.low column.low
 
 -- a settled entry that is the same
 pub settled_copy : (b : Basis) (w : List ℕ) (m : Matrix) (s k i j i' j' x : ℕ) → IsSource b i j i' j' → IsAdvanced b w m s k → IsSettled m i' j' → x ≡ cell m.n m.entries i' j' → x ≡ entry (times b) b w i j

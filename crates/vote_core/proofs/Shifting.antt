@@ -1,10 +1,14 @@
 -- The products with one member, as far as they are found
-use Rattle.std.proofs.Common.{ℕ, ◌≡◌, ◌≢◌, ◌+◌, ◌<◌, ◌≤◌, List, length, set, sym, ◌∙◌, ap, inl, inr, arith, replicate}
-use Rattle.std.specs.Prelude.{slice_index}
+use Rattle.std.proofs.Common.{ℕ, ◌≡◌, ◌≢◌, refl, ◌+◌, ◌<◌, ◌≤◌, List, length, set, sym, ◌∙◌, ap, inl, inr, arith, replicate}
+use Rattle.std.specs.Prelude.{slice_index, slice_index_or, [], Option, Some, None}
 use Rattle.std.proofs.lemmas.Bool.{cases_eq}
 use Rattle.std.proofs.lemmas.List.{get_or-set_same, get_or-set_other, length-set, get_or-replicate, length-replicate}
-use Rattle.order_theory.specs.Basis.{Basis, times, vector}
-use Rattle.vote_core.specs.Shifts.{HasShift}
+use Rattle.std.proofs.lemmas.List.Elements.{All-get_or}
+use Rattle.gf_theory.specs.Field.{gf_mul}
+use Rattle.order_theory.specs.Basis.{Basis, IsWord, IsSoundBasis, times, vector}
+use Rattle.vote_matrix.specs.Held.{slots}
+use Rattle.vote_matrix.proofs.Slots.{length-slots, slots-set, slots_none, lows_set, lows_none}
+use Rattle.vote_core.specs.Shifts.{HasShift, AreLow}
 use Rattle.vote_core.specs.declared.shifts.Shift.{Shift}
 
 -- the products of the members below i are found, or are none
@@ -15,8 +19,8 @@ pub record IsFilled (b : Basis) (by i : ℕ) (next back : List ℕ) : Type 0 whe
   pub products : (j : ℕ) → j < b.n → slice_index next j < b.n → (p : ℕ) → p < b.n → times b (vector b by p) (vector b j p) ≡ vector b (slice_index next j) p
   pub forth : (q : ℕ) → q < b.n → slice_index back q < b.n → slice_index next (slice_index back q) ≡ q
 
-pub filled_none : (b : Basis) (by x y n : ℕ) (next back : List ℕ) → n ≡ b.n → x ≡ b.n → y ≡ b.n → next ≡ replicate x n → back ≡ replicate y n → IsFilled b by 0 next back
-filled_none b by x y n next back en ex ey e1 e2 =
+none_filled : (b : Basis) (by x y n : ℕ) (next back : List ℕ) → n ≡ b.n → x ≡ b.n → y ≡ b.n → next ≡ replicate x n → back ≡ replicate y n → IsFilled b by 0 next back
+none_filled b by x y n next back en ex ey e1 e2 =
     let at : (k z : ℕ) (xs : List ℕ) → z ≡ b.n → xs ≡ replicate z n → k < b.n → slice_index xs k ≡ b.n =
     λ k z xs ez es l. ap (λ (v : List ℕ). slice_index v k) es ∙ get_or-replicate z k n 0 (omega arith) ∙ en in
     record {
@@ -28,8 +32,8 @@ filled_none b by x y n next back en ex ey e1 e2 =
     }
 
 -- no product is found
-pub filled_past : (b : Basis) (by i : ℕ) (next back : List ℕ) → IsFilled b by i next back → IsFilled b by (i + 1) next back
-filled_past b by i next back h = record {
+past_filled : (b : Basis) (by i : ℕ) (next back : List ℕ) → IsFilled b by i next back → IsFilled b by (i + 1) next back
+past_filled b by i next back h = record {
   next_long = h.next_long;
   back_long = h.back_long;
   later = λ j u l. h.later j (omega arith) l;
@@ -38,9 +42,9 @@ filled_past b by i next back h = record {
 }
 
 -- the product of member i is member q
-pub filled_one : (b : Basis) (by i q : ℕ) (next back : List ℕ) → i < b.n → q < b.n → ((p : ℕ) → p < b.n → times b (vector b by p) (vector b i p) ≡ vector b q p)
+one_filled : (b : Basis) (by i q : ℕ) (next back : List ℕ) → i < b.n → q < b.n → ((p : ℕ) → p < b.n → times b (vector b by p) (vector b i p) ≡ vector b q p)
     → IsFilled b by i next back → IsFilled b by (i + 1) (set next i q) (set back q i)
-filled_one b by i q next back li lq is h = record {
+one_filled b by i q next back li lq is h = record {
   next_long = length-set next i q ∙ h.next_long;
   back_long = length-set back q i ∙ h.back_long;
   later = λ j u l. get_or-set_other next i j q 0 (omega arith) ∙ h.later j (omega arith) l;
@@ -64,10 +68,45 @@ filled_one b by i q next back li lq is h = record {
   ];
 }
 
-pub filled_all : (b : Basis) (by i : ℕ) (shift : Shift) → IsFilled b by i shift.next.items shift.back.items → HasShift b shift
+-- the product of members by and i is member q, as the code finds it
+pub product_is : (b : Basis) (fb fm by i q : ℕ) (x y z : List ℕ) → IsSoundBasis b → fb ≡ b.bits → fm ≡ b.modulus
+    → x ≡ slice_index_or b.vectors by [] → y ≡ slice_index_or b.vectors i [] → z ≡ slice_index_or b.vectors q [] → q < b.n
+    → ((p : ℕ) → p < length z → gf_mul fb fm (slice_index x p) (slice_index y p) ≡ slice_index z p)
+    → (p : ℕ) → p < b.n → times b (vector b by p) (vector b i p) ≡ vector b q p
+product_is b fb fm by i q x y z h eb em ex ey ez lq prod p l =
+    let word : IsWord b.bits b.n (slice_index_or b.vectors q []) = All-get_or (IsWord b.bits b.n) b.vectors q [] (omega (arith, h.sound.shape.n_vectors)) h.sound.shape.vector_words in
+    let long : length z ≡ b.n = ap length ez ∙ word.n_long in
+    let e : gf_mul fb fm (slice_index x p) (slice_index y p) ≡ slice_index z p = prod p (omega arith) in
+    rw (eb, em, ex, ey, ez) at e
+
+-- ---- the same of options
+pub record HasFilled (b : Basis) (by i : ℕ) (next back : List (Option ℕ)) : Type 0 where
+  pub filled : IsFilled b by i (slots b.n next) (slots b.n back)
+  pub next_low : AreLow b.n next
+  pub back_low : AreLow b.n back
+
+pub filled_none : (b : Basis) (by x y : ℕ) (next back : List (Option ℕ)) → x ≡ b.n → y ≡ b.n → next ≡ replicate x None → back ≡ replicate y None → HasFilled b by 0 next back
+filled_none b by x y next back ex ey e1 e2 = record {
+  filled = none_filled b by x y b.n (slots b.n next) (slots b.n back) refl ex ey (slots_none b.n x next e1) (slots_none b.n y back e2);
+  next_low = lows_none b.n x next e1;
+  back_low = lows_none b.n y back e2;
+}
+
+pub filled_past : (b : Basis) (by i : ℕ) (next back : List (Option ℕ)) → HasFilled b by i next back → HasFilled b by (i + 1) next back
+filled_past b by i next back h = record { filled = past_filled b by i (slots b.n next) (slots b.n back) h.filled; next_low = h.next_low; back_low = h.back_low }
+
+pub filled_one : (b : Basis) (by i q : ℕ) (next back : List (Option ℕ)) → i < b.n → q < b.n → ((p : ℕ) → p < b.n → times b (vector b by p) (vector b i p) ≡ vector b q p)
+    → HasFilled b by i next back → HasFilled b by (i + 1) (set next i (Some q)) (set back q (Some i))
+filled_one b by i q next back li lq is h = record {
+  filled = rw (slots-set b.n next i (Some q), slots-set b.n back q (Some i)) (one_filled b by i q (slots b.n next) (slots b.n back) li lq is h.filled);
+  next_low = lows_set b.n next i q lq h.next_low;
+  back_low = lows_set b.n back q i li h.back_low;
+}
+
+pub filled_all : (b : Basis) (by i : ℕ) (shift : Shift) → HasFilled b by i shift.next.items shift.back.items → HasShift b shift
 filled_all b by i shift h = record {
-  room = record { n_next = h.next_long; n_back = h.back_long };
-  by = by;
-  products = h.products;
-  forth = h.forth;
+  room = record { n_next = sym (length-slots b.n shift.next.items) ∙ h.filled.next_long; n_back = sym (length-slots b.n shift.back.items) ∙ h.filled.back_long };
+  products = record { by = by; products = h.filled.products; forth = h.filled.forth };
+  next_low = h.next_low;
+  back_low = h.back_low;
 }

@@ -2,8 +2,8 @@
 -- IsWeighed     a list holds the products of a working list and the vector of one member, place by place
 -- HasHere       a list has the entries of the rows above i that stand at pairs of one member, by row
 -- RowVotes      what one row says of a member: nothing, or the vote of the one candidate that it has
--- AreVotes      a list has the votes of the rows above i, and numbers that are no symbols for rows without one
-use Rattle.std.specs.Prelude.{◌≡◌, ℕ, ◌<◌, ◌^◌, true, false, List, length, slice_index, All, Option, Some, None}
+-- AreVotes      a list has what each of the rows above i says of a member
+use Rattle.std.specs.Prelude.{◌≡◌, ℕ, ◌<◌, ◌^◌, true, false, List, length, slice_index, slice_index_or, All, Option, Some, None}
 use Rattle.counting_theory.specs.Ranks.{candidate}
 use Rattle.order_theory.specs.Basis.{Basis, times, vector, rank_at, sum_at}
 use Rattle.order_theory.specs.Errors.{entry, part_rank}
@@ -46,5 +46,5 @@ abbrev pub RowVotes : Basis → List ℕ → ℕ → ℕ → Option ℕ → Type
 RowVotes b w k i None = HasNoVote b w k i
 RowVotes b w k i (Some v) = HasVote b w k i v
 
-pub record AreVotes (b : Basis) (w : List ℕ) (k : ℕ) (votes : List ℕ) (i : ℕ) : Type 0 where
-  pub at : (a : ℕ) → a < i → slice_index votes a < 2 ^ b.bits → HasVote b w k a (slice_index votes a)
+pub record AreVotes (b : Basis) (w : List ℕ) (k : ℕ) (votes : List (Option ℕ)) (i : ℕ) : Type 0 where
+  pub at : (a : ℕ) → a < i → RowVotes b w k a (slice_index_or votes a None)

@@ -1,10 +1,13 @@
 -- IsShiftRoom, AreShiftRooms    room for the products of n members
+-- AreProducts                   lists of members are the products of all members with one of them
+-- AreLow                        each number of a list of options is below n
 -- HasShift                      the products of all members with one of them
 -- HasShifts                     the products with two members
 -- IsSource                      the matrix of every list has the same entry at (i', j') as at (i, j)
-use Rattle.std.specs.Prelude.{◌≡◌, ℕ, ◌<◌, List, length, slice_index}
+use Rattle.std.specs.Prelude.{◌≡◌, ℕ, ◌<◌, List, length, slice_index, Option, All, IfSome}
 use Rattle.order_theory.specs.Basis.{Basis, times, vector}
 use Rattle.order_theory.specs.Errors.{entry}
+use Rattle.vote_matrix.specs.Held.{slots}
 use Rattle.vote_core.specs.declared.shifts.Shift.{Shift}
 use Rattle.vote_core.specs.declared.shifts.Shifts.{Shifts}
 
@@ -16,12 +19,21 @@ pub record AreShiftRooms (n : ℕ) (shifts : Shifts) : Type 0 where
   pub first_room : IsShiftRoom n shifts.first
   pub second_room : IsShiftRoom n shifts.second
 
--- Where next i is a member, its vector is vector i times the vector of member by; where back q is a member, next leads back
+-- where next i is a member, its vector is vector i times the vector of member by; where back q is a member, next leads back
+pub record AreProducts (b : Basis) (next back : List ℕ) : Type 0 where
+  pub by : ℕ
+  pub products : (i : ℕ) → i < b.n → slice_index next i < b.n → (p : ℕ) → p < b.n → times b (vector b by p) (vector b i p) ≡ vector b (slice_index next i) p
+  pub forth : (q : ℕ) → q < b.n → slice_index back q < b.n → slice_index next (slice_index back q) ≡ q
+
+abbrev pub AreLow : ℕ → List (Option ℕ) → Type 0
+AreLow n xs = All (λ o. IfSome o (λ x. x < n)) xs
+
+-- n stands for none
 pub record HasShift (b : Basis) (shift : Shift) : Type 0 where
   pub room : IsShiftRoom b.n shift
-  pub by : ℕ
-  pub products : (i : ℕ) → i < b.n → slice_index shift.next.items i < b.n → (p : ℕ) → p < b.n → times b (vector b by p) (vector b i p) ≡ vector b (slice_index shift.next.items i) p
-  pub forth : (q : ℕ) → q < b.n → slice_index shift.back.items q < b.n → slice_index shift.next.items (slice_index shift.back.items q) ≡ q
+  pub products : AreProducts b (slots b.n shift.next.items) (slots b.n shift.back.items)
+  pub next_low : AreLow b.n shift.next.items
+  pub back_low : AreLow b.n shift.back.items
 
 pub record HasShifts (b : Basis) (shifts : Shifts) : Type 0 where
   pub first_shift : HasShift b shifts.first

@@ -20,7 +20,9 @@ fn multiply<F: Field>(f: &F, x: &[u8], y: &[u8], products: &mut [u8])
     requires same_y { length y.now ≡ length products.old }
     requires left { All (λ a. a < 2 ^ F.bits_of f.now) x.now }
     requires right { All (λ a. a < 2 ^ F.bits_of f.now) y.now }
-    ensures value { (p : ℕ) → p < length products.old → slice_index products.new p ≡ gf_mul (F.bits_of f.now) (F.modulus_of f.now) (slice_index x.now p) (slice_index y.now p) }
+    ensures value { (p : ℕ) → p < length products.old
+        → slice_index products.new p ≡ gf_mul (F.bits_of f.now) (F.modulus_of f.now)
+        (slice_index x.now p) (slice_index y.now p) }
     ensures symbols { All (λ a. a < 2 ^ F.bits_of f.now) products.new }
 {
     for p in 0..products.len() {
@@ -29,40 +31,27 @@ fn multiply<F: Field>(f: &F, x: &[u8], y: &[u8], products: &mut [u8])
 }
 
 /// The products of the working list and the vector of member i.
-fn weigh<F: Field>(f: &F, basis: &EvalBasis, work: &[u8], i: u32, row: &mut [u8])
-    requires bits { F.bits_of f.now ≡ basis.now.bits }
-    requires modulus { F.modulus_of f.now ≡ basis.now.modulus }
+fn weigh<F: Field>(basis: &EvalBasis<F>, work: &[u8], i: u32, row: &mut [u8])
     requires word { IsWord basis.now.bits basis.now.n work.now }
     requires member { i < basis.now.n }
     requires room { length row.old ≡ basis.now.n }
     ensures { IsWeighed basis.now work.now row.new i }
 {
-    multiply(f, work, basis.vector(i), row);
+    multiply(basis.field(), work, basis.vector(i), row);
 }
 
 /// The entry (i, j), by the products of row i.
-fn entry_by<F: Field>(f: &F, basis: &EvalBasis, work: &[u8], i: u32, row: &[u8], j: u32) -> u8
-    requires bits { F.bits_of f.now ≡ basis.now.bits }
-    requires modulus { F.modulus_of f.now ≡ basis.now.modulus }
+fn entry_by<F: Field>(basis: &EvalBasis<F>, work: &[u8], i: u32, row: &[u8], j: u32) -> u8
     requires weighed { IsWeighed basis.now work.now row.now i }
     requires column { j < basis.now.n }
     ensures value { result ≡ entry (times basis.now) basis.now work.now i j }
     ensures symbol { result < 2 ^ basis.now.bits }
 {
-    dot(f, row, basis.vector(j))
+    dot(basis.field(), row, basis.vector(j))
 }
 
 /// The entry (i, j), from the values of both members at the points.
-pub fn entry_at<F: Field>(
-    f: &F,
-    basis: &EvalBasis,
-    work: &[u8],
-    i: u32,
-    j: u32,
-    row: &mut [u8],
-) -> u8
-    requires bits { F.bits_of f.now ≡ basis.now.bits }
-    requires modulus { F.modulus_of f.now ≡ basis.now.modulus }
+pub fn entry_at<F: Field>(basis: &EvalBasis<F>, work: &[u8], i: u32, j: u32, row: &mut [u8]) -> u8
     requires word { IsWord basis.now.bits basis.now.n work.now }
     requires row { i < basis.now.n }
     requires column { j < basis.now.n }
@@ -70,18 +59,25 @@ pub fn entry_at<F: Field>(
     ensures value { result ≡ entry (times basis.now) basis.now work.now i j }
     ensures symbol { result < 2 ^ basis.now.bits }
 {
-    weigh(f, basis, work, i, row);
-    entry_by(f, basis, work, i, row, j)
+    weigh(basis, work, i, row);
+    entry_by(basis, work, i, row, j)
 }
 
 /// The entry (i, j), where it is the same as a settled one.
-fn copied_by(basis: &EvalBasis, shift: &Shift, matrix: &Growing, i: u32, j: u32) -> Option<u8>
+fn copied_by<F: Field>(
+    basis: &EvalBasis<F>,
+    shift: &Shift,
+    matrix: &Growing,
+    i: u32,
+    j: u32,
+) -> Option<u8>
     requires size { matrix.now.n ≡ basis.now.n }
     requires bits { matrix.now.bits ≡ basis.now.bits }
     requires shift { HasShift basis.now shift.now }
     requires row { i < basis.now.n }
     requires column { j < basis.now.n }
-    ensures value { (w : List ℕ) (s k : ℕ) → IsAdvanced basis.now w matrix.now s k → IfSome result (λ x. x ≡ entry (times basis.now) basis.now w i j) }
+    ensures value { (w : List ℕ) (s k : ℕ) → IsAdvanced basis.now w matrix.now s k
+        → IfSome result (λ x. x ≡ entry (times basis.now) basis.now w i j) }
     ensures symbol { IfSome result (λ x. x < 2 ^ basis.now.bits) }
 {
     let (row, column) = shift.source(basis, i, j)?;
@@ -93,13 +89,14 @@ fn copied_by(basis: &EvalBasis, shift: &Shift, matrix: &Growing, i: u32, j: u32)
 }
 
 /// The entry (i, j), where it is the same as a settled one.
-fn copied(basis: &EvalBasis, board: &Board, i: u32, j: u32) -> Option<u8>
+fn copied<F: Field>(basis: &EvalBasis<F>, board: &Board, i: u32, j: u32) -> Option<u8>
     requires size { board.now.matrix.n ≡ basis.now.n }
     requires bits { board.now.matrix.bits ≡ basis.now.bits }
     requires shifts { HasShifts basis.now board.now.shifts }
     requires row { i < basis.now.n }
     requires column { j < basis.now.n }
-    ensures value { (w : List ℕ) (s k : ℕ) → IsAdvanced basis.now w board.now.matrix s k → IfSome result (λ x. x ≡ entry (times basis.now) basis.now w i j) }
+    ensures value { (w : List ℕ) (s k : ℕ) → IsAdvanced basis.now w board.now.matrix s k
+        → IfSome result (λ x. x ≡ entry (times basis.now) basis.now w i j) }
     ensures symbol { IfSome result (λ x. x < 2 ^ basis.now.bits) }
 {
     match copied_by(basis, &board.shifts.first, &board.matrix, i, j) {
@@ -110,16 +107,13 @@ fn copied(basis: &EvalBasis, board: &Board, i: u32, j: u32) -> Option<u8>
 
 /// Settles the entries of row i whose sums are below the limit.
 fn settle_row<F: Field>(
-    f: &F,
-    basis: &EvalBasis,
+    basis: &EvalBasis<F>,
     work: &[u8],
     limit: u32,
     i: u32,
     board: &mut Board,
     row: &mut [u8],
 )
-    requires bits { F.bits_of f.now ≡ basis.now.bits }
-    requires modulus { F.modulus_of f.now ≡ basis.now.modulus }
     requires word { IsWord basis.now.bits basis.now.n work.now }
     requires shifts { HasShifts basis.now board.old.shifts }
     requires limit { limit ≤ basis.now.count }
@@ -138,27 +132,24 @@ fn settle_row<F: Field>(
             Some(x) => x,
             None => {
                 if !is_weighed {
-                    weigh(f, basis, work, i, row);
+                    weigh(basis, work, i, row);
                     is_weighed = true;
                 }
-                entry_by(f, basis, work, i, row, j)
+                entry_by(basis, work, i, row, j)
             }
         };
-        board.matrix.settle(f, i, j, value);
+        board.matrix.settle(basis.field(), i, j, value);
     }
 }
 
 /// Settles all entries whose sums are below the limit.
 pub fn settle_below<F: Field>(
-    f: &F,
-    basis: &EvalBasis,
+    basis: &EvalBasis<F>,
     work: &[u8],
     limit: u32,
     board: &mut Board,
     row: &mut [u8],
 )
-    requires bits { F.bits_of f.now ≡ basis.now.bits }
-    requires modulus { F.modulus_of f.now ≡ basis.now.modulus }
     requires word { IsWord basis.now.bits basis.now.n work.now }
     requires shifts { HasShifts basis.now board.old.shifts }
     requires limit { limit ≤ basis.now.count }
@@ -168,6 +159,6 @@ pub fn settle_below<F: Field>(
     ensures shifts { HasShifts basis.now board.new.shifts }
 {
     for i in 0..basis.n() {
-        settle_row(f, basis, work, limit, i, board, row);
+        settle_row(basis, work, limit, i, board, row);
     }
 }

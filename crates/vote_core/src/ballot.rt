@@ -31,8 +31,8 @@ pub struct Election {
 }
 
 /// The entry of row i at its pair (i, j), where it is that of a row above at its own pair of the same sum.
-fn copied_by(
-    basis: &EvalBasis,
+fn copied_by<F: Field>(
+    basis: &EvalBasis<F>,
     shift: &Shift,
     matrix: &Growing,
     sum: u32,
@@ -45,8 +45,10 @@ fn copied_by(
     requires room { length here.now ≡ basis.now.n }
     requires row { i < basis.now.n }
     requires column { j < basis.now.n }
-    ensures value { (w : List ℕ) → HasHere basis.now w matrix.now sum here.now i → IfSome result (λ x. x ≡ entry (times basis.now) basis.now w i j) }
-    ensures symbol { (w : List ℕ) → HasHere basis.now w matrix.now sum here.now i → IfSome result (λ x. x < 2 ^ basis.now.bits) }
+    ensures value { (w : List ℕ) → HasHere basis.now w matrix.now sum here.now i
+        → IfSome result (λ x. x ≡ entry (times basis.now) basis.now w i j) }
+    ensures symbol { (w : List ℕ) → HasHere basis.now w matrix.now sum here.now i
+        → IfSome result (λ x. x < 2 ^ basis.now.bits) }
 {
     let (row, column) = shift.source(basis, i, j)?;
     if row < i && column == matrix.reach(row) && basis.sum_at(row, column) == sum {
@@ -57,14 +59,23 @@ fn copied_by(
 }
 
 /// The entry of row i at its pair (i, j), where it is that of a row above at its own pair of the same sum.
-fn copied(basis: &EvalBasis, board: &Board, sum: u32, here: &[u8], i: u32, j: u32) -> Option<u8>
+fn copied<F: Field>(
+    basis: &EvalBasis<F>,
+    board: &Board,
+    sum: u32,
+    here: &[u8],
+    i: u32,
+    j: u32,
+) -> Option<u8>
     requires size { board.now.matrix.n ≡ basis.now.n }
     requires shifts { HasShifts basis.now board.now.shifts }
     requires room { length here.now ≡ basis.now.n }
     requires row { i < basis.now.n }
     requires column { j < basis.now.n }
-    ensures value { (w : List ℕ) → HasHere basis.now w board.now.matrix sum here.now i → IfSome result (λ x. x ≡ entry (times basis.now) basis.now w i j) }
-    ensures symbol { (w : List ℕ) → HasHere basis.now w board.now.matrix sum here.now i → IfSome result (λ x. x < 2 ^ basis.now.bits) }
+    ensures value { (w : List ℕ) → HasHere basis.now w board.now.matrix sum here.now i
+        → IfSome result (λ x. x ≡ entry (times basis.now) basis.now w i j) }
+    ensures symbol { (w : List ℕ) → HasHere basis.now w board.now.matrix sum here.now i
+        → IfSome result (λ x. x < 2 ^ basis.now.bits) }
 {
     match copied_by(basis, &board.shifts.first, &board.matrix, sum, here, i, j) {
         Some(x) => Some(x),
@@ -74,8 +85,7 @@ fn copied(basis: &EvalBasis, board: &Board, sum: u32, here: &[u8], i: u32, j: u3
 
 /// The entry of row i at its pair (i, j). It is written down.
 fn entry_here<F: Field>(
-    f: &F,
-    basis: &EvalBasis,
+    basis: &EvalBasis<F>,
     work: &[u8],
     sum: u32,
     i: u32,
@@ -83,8 +93,6 @@ fn entry_here<F: Field>(
     board: &Board,
     scratch: &mut Scratch,
 ) -> u8
-    requires bits { F.bits_of f.now ≡ basis.now.bits }
-    requires modulus { F.modulus_of f.now ≡ basis.now.modulus }
     requires word { IsWord basis.now.bits basis.now.n work.now }
     requires size { board.now.matrix.n ≡ basis.now.n }
     requires row { i < basis.now.n }
@@ -101,7 +109,7 @@ fn entry_here<F: Field>(
 {
     let entry = match copied(basis, board, sum, &scratch.here, i, j) {
         Some(x) => x,
-        None => entry_at(f, basis, work, i, j, &mut scratch.row),
+        None => entry_at(basis, work, i, j, &mut scratch.row),
     };
     scratch.here[i as usize] = entry;
     entry
@@ -109,8 +117,7 @@ fn entry_here<F: Field>(
 
 /// What row i says of member k, whose syndrome of the working list is `known`.
 fn row_vote<F: Field>(
-    f: &F,
-    basis: &EvalBasis,
+    basis: &EvalBasis<F>,
     work: &[u8],
     k: u32,
     known: u8,
@@ -118,18 +125,19 @@ fn row_vote<F: Field>(
     board: &Board,
     scratch: &mut Scratch,
 ) -> Option<u8>
-    requires bits { F.bits_of f.now ≡ basis.now.bits }
-    requires modulus { F.modulus_of f.now ≡ basis.now.modulus }
     requires word { IsWord basis.now.bits basis.now.n work.now }
     requires member { k < basis.now.n }
     requires known { known ≡ syndrome_of (times basis.now) basis.now work.now k }
     requires row { i < basis.now.n }
     requires scratch { IsScratch basis.now scratch.old }
     requires shifts { HasShifts basis.now board.now.shifts }
-    requires settled { IsAdvanced basis.now work.now board.now.matrix (rank_of basis.now k) basis.now.n }
-    requires above { HasHere basis.now work.now board.now.matrix (rank_of basis.now k) scratch.old.here.items i }
+    requires settled { IsAdvanced basis.now work.now board.now.matrix
+        (rank_of basis.now k) basis.now.n }
+    requires above { HasHere basis.now work.now board.now.matrix
+        (rank_of basis.now k) scratch.old.here.items i }
     ensures vote { RowVotes basis.now work.now k i result }
-    ensures above { HasHere basis.now work.now board.now.matrix (rank_of basis.now k) scratch.new.here.items (i + 1) }
+    ensures above { HasHere basis.now work.now board.now.matrix
+        (rank_of basis.now k) scratch.new.here.items (i + 1) }
     ensures votes { scratch.new.votes ≡ scratch.old.votes }
     ensures scratch { IsScratch basis.now scratch.new }
 {
@@ -138,22 +146,19 @@ fn row_vote<F: Field>(
     if j == basis.n() || basis.sum_at(i, j) != sum {
         return None;
     }
-    let entry = entry_here(f, basis, work, sum, i, j, board, scratch);
+    let entry = entry_here(basis, work, sum, i, j, board, scratch);
     if !board.matrix.candidate(i, j) {
         return None;
     }
+    let f = basis.field();
     let kept = board.matrix.residue(f, i, j);
     let inverse = f.inv(basis.lead(i, j));
     Some(f.add(f.mul(inverse, f.add(kept, entry)), known))
 }
 
-/// A number that is no symbol.
-const NO_VOTE: u32 = 256;
-
 /// What row i says of member k. It is written down.
 fn cast_vote<F: Field>(
-    f: &F,
-    basis: &EvalBasis,
+    basis: &EvalBasis<F>,
     work: &[u8],
     k: u32,
     known: u8,
@@ -161,27 +166,25 @@ fn cast_vote<F: Field>(
     board: &Board,
     scratch: &mut Scratch,
 ) -> Option<u8>
-    requires bits { F.bits_of f.now ≡ basis.now.bits }
-    requires modulus { F.modulus_of f.now ≡ basis.now.modulus }
     requires word { IsWord basis.now.bits basis.now.n work.now }
     requires member { k < basis.now.n }
     requires known { known ≡ syndrome_of (times basis.now) basis.now work.now k }
     requires row { i < basis.now.n }
     requires scratch { IsScratch basis.now scratch.old }
     requires shifts { HasShifts basis.now board.now.shifts }
-    requires settled { IsAdvanced basis.now work.now board.now.matrix (rank_of basis.now k) basis.now.n }
-    requires above { HasHere basis.now work.now board.now.matrix (rank_of basis.now k) scratch.old.here.items i }
+    requires settled { IsAdvanced basis.now work.now board.now.matrix
+        (rank_of basis.now k) basis.now.n }
+    requires above { HasHere basis.now work.now board.now.matrix
+        (rank_of basis.now k) scratch.old.here.items i }
     requires votes { AreVotes basis.now work.now k scratch.old.votes.items i }
     ensures vote { RowVotes basis.now work.now k i result }
-    ensures above { HasHere basis.now work.now board.now.matrix (rank_of basis.now k) scratch.new.here.items (i + 1) }
+    ensures above { HasHere basis.now work.now board.now.matrix
+        (rank_of basis.now k) scratch.new.here.items (i + 1) }
     ensures votes { AreVotes basis.now work.now k scratch.new.votes.items (i + 1) }
     ensures scratch { IsScratch basis.now scratch.new }
 {
-    let vote = row_vote(f, basis, work, k, known, i, board, scratch);
-    scratch.votes[i as usize] = match vote {
-        Some(v) => u32::from(v),
-        None => NO_VOTE,
-    };
+    let vote = row_vote(basis, work, k, known, i, board, scratch);
+    scratch.votes[i as usize] = vote;
     vote
 }
 
@@ -201,36 +204,35 @@ fn first_most(tally: &[u32]) -> usize
 
 /// The vote on member k.
 pub fn elect<F: Field>(
-    f: &F,
-    basis: &EvalBasis,
+    basis: &EvalBasis<F>,
     work: &[u8],
     k: u32,
     board: &Board,
     scratch: &mut Scratch,
     tally: &mut [u32],
 ) -> Election
-    requires bits { F.bits_of f.now ≡ basis.now.bits }
-    requires modulus { F.modulus_of f.now ≡ basis.now.modulus }
     requires word { IsWord basis.now.bits basis.now.n work.now }
     requires member { k < basis.now.n }
     requires scratch { IsScratch basis.now scratch.old }
     requires tally_len { length tally.old ≡ 2 ^ basis.now.bits }
     requires shifts { HasShifts basis.now board.now.shifts }
-    requires settled { IsAdvanced basis.now work.now board.now.matrix (rank_of basis.now k) basis.now.n }
+    requires settled { IsAdvanced basis.now work.now board.now.matrix
+        (rank_of basis.now k) basis.now.n }
     ensures elected { IsElected (times basis.now) basis.now work.now k result.winner }
     ensures votes { result.votes ≡ votes_at (times basis.now) basis.now work.now k result.winner }
     ensures candidates { result.candidates ≡ candidates_at (times basis.now) basis.now work.now k }
-    ensures above { HasHere basis.now work.now board.now.matrix (rank_of basis.now k) scratch.new.here.items basis.now.n }
+    ensures above { HasHere basis.now work.now board.now.matrix
+        (rank_of basis.now k) scratch.new.here.items basis.now.n }
     ensures all_votes { AreVotes basis.now work.now k scratch.new.votes.items basis.now.n }
     ensures known { result.known ≡ syndrome_of (times basis.now) basis.now work.now k }
     ensures scratch { IsScratch basis.now scratch.new }
 {
     tally.fill(0);
     scratch.here.fill(0);
-    let known = syndrome(f, basis, work, k);
+    let known = syndrome(basis, work, k);
     let mut candidates = 0;
     for i in 0..basis.n() {
-        if let Some(v) = cast_vote(f, basis, work, k, known, i, board, scratch) {
+        if let Some(v) = cast_vote(basis, work, k, known, i, board, scratch) {
             tally[v as usize] += 1;
             candidates += 1;
         }

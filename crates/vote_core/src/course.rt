@@ -12,43 +12,39 @@ use gf_field::Field;
 use gf_linear::{add_scaled, dot};
 
 /// The product of `list` and the vector of member k.
-pub fn syndrome<F: Field>(f: &F, basis: &EvalBasis, list: &[u8], k: u32) -> u8
-    requires bits { F.bits_of f.now ≡ basis.now.bits }
-    requires modulus { F.modulus_of f.now ≡ basis.now.modulus }
+pub fn syndrome<F: Field>(basis: &EvalBasis<F>, list: &[u8], k: u32) -> u8
     requires word { IsWord basis.now.bits basis.now.n list.now }
     requires member { k < basis.now.n }
     ensures value { result ≡ syndrome_of (times basis.now) basis.now list.now k }
     ensures symbol { result < 2 ^ basis.now.bits }
 {
-    dot(f, list, basis.vector(k))
+    dot(basis.field(), list, basis.vector(k))
 }
 
 /// Gives the working list the syndrome v at member k.
-pub fn take_on<F: Field>(f: &F, basis: &EvalBasis, k: u32, v: u8, work: &mut [u8])
-    requires bits { F.bits_of f.now ≡ basis.now.bits }
-    requires modulus { F.modulus_of f.now ≡ basis.now.modulus }
+pub fn take_on<F: Field>(basis: &EvalBasis<F>, k: u32, v: u8, work: &mut [u8])
     requires word { IsWord basis.now.bits basis.now.n work.old }
     requires member { k < basis.now.n }
     requires symbol { v < 2 ^ basis.now.bits }
     ensures moved { IsMoved (times basis.now) basis.now work.old k v work.new }
     ensures word { IsWord basis.now.bits basis.now.n work.new }
 {
-    let before = syndrome(f, basis, work, k);
+    let f = basis.field();
+    let before = syndrome(basis, work, k);
     let factor = f.add(v, before);
     add_scaled(f, work, factor, basis.dual(k));
 }
 
 /// Whether all syndromes of the marked members are 0.
-pub fn is_undamaged<F: Field>(f: &F, basis: &EvalBasis, marks: &[bool], list: &[u8]) -> bool
-    requires bits { F.bits_of f.now ≡ basis.now.bits }
-    requires modulus { F.modulus_of f.now ≡ basis.now.modulus }
+pub fn is_undamaged<F: Field>(basis: &EvalBasis<F>, marks: &[bool], list: &[u8]) -> bool
     requires word { IsWord basis.now.bits basis.now.n list.now }
     requires marks { length marks.now ≡ basis.now.n }
-    ensures undamaged { IsTrue result ↔ ((k : ℕ) → k < basis.now.n → marked marks.now k ≡ true → syndrome_of (times basis.now) basis.now list.now k ≡ 0) }
+    ensures undamaged { IsTrue result ↔ ((k : ℕ) → k < basis.now.n → marked marks.now k ≡ true
+        → syndrome_of (times basis.now) basis.now list.now k ≡ 0) }
     ensures sound { IsSoundBasis basis.now }
 {
     for k in 0..basis.n() {
-        if marks[k as usize] && syndrome(f, basis, list, k) != 0 {
+        if marks[k as usize] && syndrome(basis, list, k) != 0 {
             return false;
         }
     }

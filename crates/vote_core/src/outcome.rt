@@ -16,8 +16,7 @@ use vote_matrix::Growing;
 /// Gives the working list the syndrome that won on member k, which was `known`, and settles the candidates that voted for
 /// it: they keep the rank, so no row is reduced for them.
 pub fn conclude<F: Field>(
-    f: &F,
-    basis: &EvalBasis,
+    basis: &EvalBasis<F>,
     k: u32,
     winner: u8,
     known: u8,
@@ -25,25 +24,25 @@ pub fn conclude<F: Field>(
     scratch: &Scratch,
     matrix: &mut Growing,
 )
-    requires bits { F.bits_of f.now ≡ basis.now.bits }
-    requires modulus { F.modulus_of f.now ≡ basis.now.modulus }
     requires word { IsWord basis.now.bits basis.now.n work.old }
     requires member { k < basis.now.n }
     requires winner { winner < 2 ^ basis.now.bits }
     requires known { known ≡ syndrome_of (times basis.now) basis.now work.old k }
     requires scratch { IsScratch basis.now scratch.now }
     requires settled { IsAdvanced basis.now work.old matrix.old (rank_of basis.now k) basis.now.n }
-    requires above { HasHere basis.now work.old matrix.old (rank_of basis.now k) scratch.now.here.items basis.now.n }
+    requires above { HasHere basis.now work.old matrix.old
+        (rank_of basis.now k) scratch.now.here.items basis.now.n }
     requires votes { AreVotes basis.now work.old k scratch.now.votes.items basis.now.n }
     ensures moved { IsMoved (times basis.now) basis.now work.old k winner work.new }
     ensures word { IsWord basis.now.bits basis.now.n work.new }
     ensures settled { IsAdvanced basis.now work.new matrix.new (rank_of basis.now k + 1) 0 }
 {
-    take_on(f, basis, k, winner, work);
+    take_on(basis, k, winner, work);
     let n = basis.n();
+    let f = basis.field();
     let change = f.add(winner, known);
     for i in 0..n {
-        if scratch.votes[i as usize] == u32::from(winner) {
+        if scratch.votes[i as usize] == Some(winner) {
             let j = matrix.reach(i);
             let added = f.mul(basis.lead(i, j), change);
             let value = f.add(scratch.here[i as usize], added);

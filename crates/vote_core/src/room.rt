@@ -17,8 +17,8 @@ pub struct Scratch {
     pub row: Vec<u8>,
     /// For each row its entry at the pair whose sum is the member that is voted on.
     pub here: Vec<u8>,
-    /// For each row its vote on that member, or a number that is no symbol.
-    pub votes: Vec<u32>,
+    /// For each row its vote on that member, if it has one.
+    pub votes: Vec<Option<u8>>,
 }
 
 /// The room of a voter.

@@ -11,10 +11,10 @@ use gf_field::Field;
 /// The products of all members with one of them.
 #[derive(Drop)]
 pub struct Shift {
-    /// For each member the member that is its product, or n.
-    pub next: Vec<u32>,
-    /// For each member one whose product it is, or n.
-    pub back: Vec<u32>,
+    /// For each member the member that is its product, if one is.
+    pub next: Vec<Option<u32>>,
+    /// For each member one whose product it is, if it is one.
+    pub back: Vec<Option<u32>>,
 }
 
 /// The products with two members.
@@ -30,7 +30,9 @@ fn is_product<F: Field>(f: &F, x: &[u8], y: &[u8], z: &[u8]) -> bool
     requires same_y { length y.now ≡ length z.now }
     requires left { All (λ a. a < 2 ^ F.bits_of f.now) x.now }
     requires right { All (λ a. a < 2 ^ F.bits_of f.now) y.now }
-    ensures { IsTrue result ↔ ((p : ℕ) → p < length z.now → gf_mul (F.bits_of f.now) (F.modulus_of f.now) (slice_index x.now p) (slice_index y.now p) ≡ slice_index z.now p) }
+    ensures { IsTrue result ↔ ((p : ℕ) → p < length z.now
+        → gf_mul (F.bits_of f.now) (F.modulus_of f.now) (slice_index x.now p) (slice_index y.now p)
+        ≡ slice_index z.now p) }
 {
     for p in 0..z.len() {
         if f.mul(x[p], y[p]) != z[p] {
@@ -40,22 +42,21 @@ fn is_product<F: Field>(f: &F, x: &[u8], y: &[u8], z: &[u8]) -> bool
     true
 }
 
-/// The first member from `from` on whose rank is at least `rank`, or n.
-fn first_from(basis: &EvalBasis, rank: u32, from: u32) -> u32
-    requires { from ≤ basis.now.n }
-    ensures { result ≤ basis.now.n }
+/// The first member from `from` on whose rank is at least `rank`.
+fn first_from<F: Field>(basis: &EvalBasis<F>, rank: u32, from: u32) -> Option<u32>
+    requires { from < basis.now.n }
+    ensures { IfSome result (λ q. q < basis.now.n) }
 {
-    let n = basis.n();
-    for q in from..n {
+    for q in from..basis.n() {
         if basis.rank_at(q) >= rank {
-            return q;
+            return Some(q);
         }
     }
-    n
+    None
 }
 
 /// The first member after `from` to which no other leads, or the last one.
-fn first_unreached(back: &[u32], from: u32) -> u32
+fn first_unreached(back: &[Option<u32>], from: u32) -> u32
     requires some { 0 < length back.now }
     requires few { length back.now ≤ 1024 }
     requires from { from < length back.now }
@@ -63,7 +64,7 @@ fn first_unreached(back: &[u32], from: u32) -> u32
 {
     let n = back.len() as u32;
     for q in from + 1..n {
-        if back[q as usize] == n {
+        if back[q as usize].is_none() {
             return q;
         }
     }
@@ -74,41 +75,43 @@ impl Shift {
     ghost use Rattle.vote_core.specs.Shifts.{IsShiftRoom, HasShift, IsSource};
 
     /// Finds the products with member `by`.
-    fn fill<F: Field>(&mut self, f: &F, basis: &EvalBasis, by: u32)
-        requires bits { F.bits_of f.now ≡ basis.now.bits }
-        requires modulus { F.modulus_of f.now ≡ basis.now.modulus }
+    fn fill<F: Field>(&mut self, basis: &EvalBasis<F>, by: u32)
         requires member { by < basis.now.n }
         requires room { IsShiftRoom basis.now.n self.old }
         ensures { HasShift basis.now self.new }
     {
-        let n = basis.n();
-        self.next.fill(n);
-        self.back.fill(n);
-        let mut q = 0;
-        for i in 0..n {
-            q = first_from(basis, basis.sum_at(by, i), q);
-            if q < n && is_product(f, basis.vector(by), basis.vector(i), basis.vector(q)) {
-                self.next[i as usize] = q;
-                self.back[q as usize] = i;
+        self.next.fill(None);
+        self.back.fill(None);
+        let mut from = 0;
+        for i in 0..basis.n() {
+            let Some(q) = first_from(basis, basis.sum_at(by, i), from) else {
+                return;
+            };
+            if is_product(
+                basis.field(),
+                basis.vector(by),
+                basis.vector(i),
+                basis.vector(q),
+            ) {
+                self.next[i as usize] = Some(q);
+                self.back[q as usize] = Some(i);
             }
+            from = q;
         }
     }
 
     /// A place at which the matrix of every list has the same entry as at (i, j).
-    pub fn source(&self, basis: &EvalBasis, i: u32, j: u32) -> Option<(u32, u32)>
+    pub fn source<F: Field>(&self, basis: &EvalBasis<F>, i: u32, j: u32) -> Option<(u32, u32)>
         requires shift { HasShift basis.now self.now }
         requires row { i < basis.now.n }
         requires column { j < basis.now.n }
         ensures { IfSome result (λ place. IsSource basis.now i j place.0 place.1) }
     {
-        let n = basis.n();
-        let row = self.back[i as usize];
-        let column = self.next[j as usize];
-        if row < n && column < n {
-            Some((row, column))
-        } else {
-            None
-        }
+        // For its facts: the basis is sound.
+        basis.n();
+        let row = self.back[i as usize]?;
+        let column = self.next[j as usize]?;
+        Some((row, column))
     }
 }
 
@@ -116,16 +119,14 @@ impl Shifts {
     ghost use Rattle.vote_core.specs.Shifts.{AreShiftRooms, HasShifts};
 
     /// Finds the products with member 1, and with the first member after it that these do not reach.
-    pub fn fill<F: Field>(&mut self, f: &F, basis: &EvalBasis)
-        requires bits { F.bits_of f.now ≡ basis.now.bits }
-        requires modulus { F.modulus_of f.now ≡ basis.now.modulus }
+    pub fn fill<F: Field>(&mut self, basis: &EvalBasis<F>)
         requires room { AreShiftRooms basis.now.n self.old }
         ensures { HasShifts basis.now self.new }
     {
         let last = basis.n() - 1;
         let one = last.min(1);
-        self.first.fill(f, basis, one);
+        self.first.fill(basis, one);
         let other = first_unreached(&self.first.back, one);
-        self.second.fill(f, basis, other);
+        self.second.fill(basis, other);
     }
 }

@@ -20,9 +20,7 @@ use eval_basis::EvalBasis;
 use gf_field::Field;
 
 /// Votes on member k: the working list takes on the syndrome that wins.
-fn turn<F: Field>(f: &F, basis: &EvalBasis, k: u32, work: &mut [u8], room: &mut Room) -> VoteLine
-    requires bits { F.bits_of f.now ≡ basis.now.bits }
-    requires modulus { F.modulus_of f.now ≡ basis.now.modulus }
+fn turn<F: Field>(basis: &EvalBasis<F>, k: u32, work: &mut [u8], room: &mut Room) -> VoteLine
     requires word { IsWord basis.now.bits basis.now.n work.old }
     requires member { k < basis.now.n }
     requires room { IsRoom basis.now room.old }
@@ -32,10 +30,10 @@ fn turn<F: Field>(f: &F, basis: &EvalBasis, k: u32, work: &mut [u8], room: &mut 
     ensures word { IsWord basis.now.bits basis.now.n work.new }
     ensures room { IsRoom basis.now room.new }
     ensures shifts { HasShifts basis.now room.new.board.shifts }
-    ensures settled { IsAdvanced basis.now work.new room.new.board.matrix (rank_of basis.now k + 1) 0 }
+    ensures settled { IsAdvanced basis.now work.new room.new.board.matrix
+        (rank_of basis.now k + 1) 0 }
 {
     settle_below(
-        f,
         basis,
         work,
         basis.rank_at(k),
@@ -43,7 +41,6 @@ fn turn<F: Field>(f: &F, basis: &EvalBasis, k: u32, work: &mut [u8], room: &mut 
         &mut room.scratch.row,
     );
     let vote = elect(
-        f,
         basis,
         work,
         k,
@@ -52,7 +49,6 @@ fn turn<F: Field>(f: &F, basis: &EvalBasis, k: u32, work: &mut [u8], room: &mut 
         &mut room.tally,
     );
     conclude(
-        f,
         basis,
         k,
         vote.winner,
@@ -71,15 +67,12 @@ fn turn<F: Field>(f: &F, basis: &EvalBasis, k: u32, work: &mut [u8], room: &mut 
 
 /// Votes on each unmarked member in its order, and writes a line for each; the answer is the number of the lines.
 pub fn vote_on_all<F: Field>(
-    f: &F,
-    basis: &EvalBasis,
+    basis: &EvalBasis<F>,
     marks: &[bool],
     work: &mut [u8],
     room: &mut Room,
     lines: &mut [VoteLine],
 ) -> usize
-    requires bits { F.bits_of f.now ≡ basis.now.bits }
-    requires modulus { F.modulus_of f.now ≡ basis.now.modulus }
     requires marks { length marks.now ≡ basis.now.n }
     requires word { IsWord basis.now.bits basis.now.n work.old }
     requires room { IsRoom basis.now room.old }
@@ -87,7 +80,9 @@ pub fn vote_on_all<F: Field>(
     requires shifts { HasShifts basis.now room.old.board.shifts }
     requires empty { (s : ℕ) → IsAdvanced basis.now work.old room.old.board.matrix s 0 }
     ensures word { IsWord basis.now.bits basis.now.n work.new }
-    ensures kept { (m : ℕ) → m < basis.now.n → marked marks.now m ≡ true → syndrome_of (times basis.now) basis.now work.new m ≡ syndrome_of (times basis.now) basis.now work.old m }
+    ensures kept { (m : ℕ) → m < basis.now.n → marked marks.now m ≡ true
+        → syndrome_of (times basis.now) basis.now work.new m
+        ≡ syndrome_of (times basis.now) basis.now work.old m }
     ensures found { Recovers basis.now marks.now work.old work.new (take result lines.new) }
     ensures few { result ≤ basis.now.n }
     ensures room { IsRoom basis.now room.new }
@@ -95,7 +90,7 @@ pub fn vote_on_all<F: Field>(
     let mut told = 0;
     for k in 0..basis.n() {
         if !marks[k as usize] {
-            lines[told] = turn(f, basis, k, work, room);
+            lines[told] = turn(basis, k, work, room);
             told += 1;
         }
     }

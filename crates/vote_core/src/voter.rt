@@ -31,13 +31,13 @@ fn new_shift(alloc: Global, n: usize) -> Result<Shift, AllocError>
     ensures { IfOk result (λ shift. IsShiftRoom n shift) }
 {
     Ok(Shift {
-        next: vec![in alloc; 0; n]?,
-        back: vec![in alloc; 0; n]?,
+        next: vec![in alloc; None; n]?,
+        back: vec![in alloc; None; n]?,
     })
 }
 
 /// The room for a vote over this basis.
-fn new_room(alloc: Global, basis: &EvalBasis) -> Result<Room, AllocError>
+fn new_room<F: Field>(alloc: Global, basis: &EvalBasis<F>) -> Result<Room, AllocError>
     ensures { IfOk result (λ room. IsRoom basis.now room) }
 {
     let n = basis.n() as usize;
@@ -52,7 +52,7 @@ fn new_room(alloc: Global, basis: &EvalBasis) -> Result<Room, AllocError>
         scratch: Scratch {
             row: vec![in alloc; 0; n]?,
             here: vec![in alloc; 0; n]?,
-            votes: vec![in alloc; 0; n]?,
+            votes: vec![in alloc; None; n]?,
         },
         tally: vec![in alloc; 0; 1usize << basis.bits()]?,
     })
@@ -71,10 +71,11 @@ fn low_symbols(bits: u32, bytes: &[u8], symbols: &mut [u8])
 }
 
 /// Writes the ledger of no error: each pair is a right candidate.
-fn write_unanimous(basis: &EvalBasis, marks: &[bool], lines: &mut [VoteLine]) -> usize
+fn write_unanimous<F: Field>(basis: &EvalBasis<F>, marks: &[bool], lines: &mut [VoteLine]) -> usize
     requires marks { length marks.now ≡ basis.now.n }
     requires lines { length lines.old ≡ basis.now.n }
-    ensures lines { (e : List ℕ) → IsWord basis.now.bits basis.now.n e → All (λ x. x ≡ 0) e → take result lines.new ≡ ledger_of basis.now marks.now e }
+    ensures lines { (e : List ℕ) → IsWord basis.now.bits basis.now.n e → All (λ x. x ≡ 0) e
+        → take result lines.new ≡ ledger_of basis.now marks.now e }
     ensures few { result ≤ basis.now.n }
 {
     let mut told = 0;
@@ -95,36 +96,37 @@ fn write_unanimous(basis: &EvalBasis, marks: &[bool], lines: &mut [VoteLine]) ->
 
 /// Some: list becomes its error, and so many lines are its ledger. None: there is none.
 fn find_error<F: Field>(
-    f: &F,
-    basis: &EvalBasis,
+    basis: &EvalBasis<F>,
     marks: &[bool],
     t: u32,
     list: &mut [u8],
     room: &mut Room,
     lines: &mut [VoteLine],
 ) -> Option<usize>
-    requires bits { F.bits_of f.now ≡ basis.now.bits }
-    requires modulus { F.modulus_of f.now ≡ basis.now.modulus }
     requires marks { length marks.now ≡ basis.now.n }
     requires word { IsWord basis.now.bits basis.now.n list.old }
     requires bound { IsBound basis.now marks.now (2 * t + 1) }
     requires room { IsRoom basis.now room.old }
     requires lines { length lines.old ≡ basis.now.n }
-    ensures error { IfSome result (λ told. IsErrorOf (times basis.now) basis.now marks.now t list.old list.new) }
-    ensures only { IfSome result (λ told. (e : List ℕ) → IsErrorOf (times basis.now) basis.now marks.now t list.old e → e ≡ list.new) }
-    ensures ledger { IfSome result (λ told. take told lines.new ≡ ledger_of basis.now marks.now list.new) }
+    ensures error { IfSome result (λ told.
+        IsErrorOf (times basis.now) basis.now marks.now t list.old list.new) }
+    ensures only { IfSome result (λ told. (e : List ℕ) →
+        IsErrorOf (times basis.now) basis.now marks.now t list.old e → e ≡ list.new) }
+    ensures ledger { IfSome result (λ told. take told lines.new
+        ≡ ledger_of basis.now marks.now list.new) }
     ensures few { IfSome result (λ told. told ≤ basis.now.n) }
-    ensures none { IfNone result ((e : List ℕ) → IsErrorOf (times basis.now) basis.now marks.now t list.old e → ⊥) }
+    ensures none { IfNone result ((e : List ℕ)
+        → IsErrorOf (times basis.now) basis.now marks.now t list.old e → ⊥) }
     ensures room { IsRoom basis.now room.new }
     ensures sound { IsSoundBasis basis.now }
 {
-    if is_undamaged(f, basis, marks, list) {
+    if is_undamaged(basis, marks, list) {
         list.fill(0);
         return Some(write_unanimous(basis, marks, lines));
     }
     room.board.matrix.clear();
-    room.board.shifts.fill(f, basis);
-    let told = vote_on_all(f, basis, marks, list, room, lines);
+    room.board.shifts.fill(basis);
+    let told = vote_on_all(basis, marks, list, room, lines);
     if weight_of(list) > t as usize {
         return None;
     }
@@ -162,16 +164,23 @@ impl Voter {
     ghost use Rattle.vote_core.specs.Found.{IsAnswer};
 
     /// A voter for the members that are not checked. It corrects up to t symbols.
-    pub fn new(
+    pub fn new<F: Field>(
         alloc: Global,
-        basis: &EvalBasis,
+        basis: &EvalBasis<F>,
         checked: &Checked,
         t: u32,
     ) -> Result<Voter, AllocError>
         requires marks { length checked.now ≡ basis.now.n }
         requires some_free { (k : ℕ) × (k < basis.now.n) × (marked checked.now k ≡ false) }
         requires radius { IsBound basis.now checked.now (2 * t + 1) }
-        ensures { IfOk result (λ v. v ≡ record { bits = basis.now.bits; modulus = basis.now.modulus; n = basis.now.n; marks = checked.now; t = t; ledger = [] }) }
+        ensures { IfOk result (λ v. v ≡ record {
+          bits = basis.now.bits;
+          modulus = basis.now.modulus;
+          n = basis.now.n;
+          marks = checked.now;
+          t = t;
+          ledger = [];
+        }) }
     {
         let n = basis.n();
         let size = n as usize;
@@ -199,19 +208,17 @@ impl Voter {
 
     /// Error: `err` has at most t symbols that are not 0, and the low bits of `got` and `err` together are in the code.
     /// Far: there is no such list, and `err` is all 0. It takes no memory.
-    pub fn find<F: Field>(&mut self, f: &F, basis: &EvalBasis, got: &[u8], err: &mut [u8]) -> Found
+    pub fn find<F: Field>(&mut self, basis: &EvalBasis<F>, got: &[u8], err: &mut [u8]) -> Found
         requires fits { Fits self.old basis.now }
-        requires bits { F.bits_of f.now ≡ basis.now.bits }
-        requires modulus { F.modulus_of f.now ≡ basis.now.modulus }
         requires received { length got.now ≡ basis.now.n }
         requires room { length err.old ≡ basis.now.n }
-        ensures answer { IsAnswer basis.now self.old.marks self.old.t (low_bits basis.now.bits got.now) err.new result }
+        ensures answer { IsAnswer basis.now self.old.marks self.old.t
+            (low_bits basis.now.bits got.now) err.new result }
         ensures ledger { Told basis.now self.old err.new result self.new }
     {
         low_symbols(self.bits, got, err);
         self.told = 0;
         match find_error(
-            f,
             basis,
             &self.marks,
             self.t,

@@ -41,17 +41,17 @@ inv-inverse-requires-clause-nonzero g c =
     subst (λ (y : ℕ). 0 < y) (sym c.lead.ensures.value) x.1
 
 pub add-requires-2-clause-right : goal.add-requires-2-clause-right
-add-requires-2-clause-right g c = known_below c.args.basis.now c.args.work.now c.args.k c.args.known (g.F.Field.bits_of c.args.f.now) c.n.ensures.sound c.requires.known c.requires.bits
+add-requires-2-clause-right g c = known_below c.args.basis.now c.args.work.now c.args.k c.args.known (g.F.Field.bits_of c.field-f.result.now) c.n.ensures.sound c.requires.known c.field-f.ensures.bits
 
 pub returns-clause-vote : goal.returns-clause-vote
 returns-clause-vote g c =
     let low : c.reach-j.result < c.args.basis.now.n =
     column_inside c.args.basis.now c.args.work.now c.args.board.now.matrix c.args.k c.n.ensures.sound c.requires.member c.requires.settled c.args.i c.reach-j.result c.requires.row c.reach-j.ensures.reach (λ e. c.if-j-n.false (e ∙ sym c.n.ensures.value)) in
     vote_is c.args.basis.now c.args.work.now c.args.board.now.matrix c.args.k c.n.ensures.sound c.requires.member c.requires.settled c.args.i c.reach-j.result
-    (g.F.Field.bits_of c.args.f.now) (g.F.Field.modulus_of c.args.f.now) c.residue-kept.result c.entry_here-entry.result c.inv-inverse.result c.args.known c.add-2.result
-    c.requires.row low (sym c.sum_at.ensures.value ∙ c.if-sum_at-sum.false ∙ c.rank_at-sum.ensures.value) (c.candidate.ensures.0 c.if-not-candidate.false) c.requires.bits c.requires.modulus
+    (g.F.Field.bits_of c.field-f.result.now) (g.F.Field.modulus_of c.field-f.result.now) c.residue-kept.result c.entry_here-entry.result c.inv-inverse.result c.args.known c.add-2.result
+    c.requires.row low (sym c.sum_at.ensures.value ∙ c.if-sum_at-sum.false ∙ c.rank_at-sum.ensures.value) (c.candidate.ensures.0 c.if-not-candidate.false) c.field-f.ensures.bits c.field-f.ensures.modulus
     c.residue-kept.ensures.symbol c.residue-kept.ensures.keeps c.entry_here-entry.ensures.value c.inv-inverse.ensures.result_element
-    (ap (λ (y : ℕ). gf_mul (g.F.Field.bits_of c.args.f.now) (g.F.Field.modulus_of c.args.f.now) y c.inv-inverse.result) (sym c.lead.ensures.value) ∙ c.inv-inverse.ensures.inverse)
+    (ap (λ (y : ℕ). gf_mul (g.F.Field.bits_of c.field-f.result.now) (g.F.Field.modulus_of c.field-f.result.now) y c.inv-inverse.result) (sym c.lead.ensures.value) ∙ c.inv-inverse.ensures.inverse)
     c.requires.known
-    (c.add-2.ensures.sum ∙ ap (λ (y : ℕ). bit_xor y c.args.known) (c.mul.ensures.product ∙ ap (λ (y : ℕ). gf_mul (g.F.Field.bits_of c.args.f.now) (g.F.Field.modulus_of c.args.f.now) c.inv-inverse.result y) c.add.ensures.sum))
+    (c.add-2.ensures.sum ∙ ap (λ (y : ℕ). bit_xor y c.args.known) (c.mul.ensures.product ∙ ap (λ (y : ℕ). gf_mul (g.F.Field.bits_of c.field-f.result.now) (g.F.Field.modulus_of c.field-f.result.now) c.inv-inverse.result y) c.add.ensures.sum))
     c.add-2.ensures.element

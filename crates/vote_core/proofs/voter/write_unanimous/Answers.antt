@@ -4,7 +4,7 @@ use Rattle.vote_core.proofs.voter.write_unanimous.Goals as goal
 use Rattle.vote_core.proofs.voter.write_unanimous.Goals.{then-not-marks-k, else-not-marks-k}
 
 pub loop-k-preserved : goal.loop-k-preserved
-loop-k-preserved c =
+loop-k-preserved g c =
     let low : c.loop-k.k < c.args.basis.now.n = omega arith in
     let few : c.loop-k.told ≤ c.loop-k.k = c.loop-k.invariant.few in
     let long : c.loop-k.told < length c.loop-k.lines = omega (arith, c.loop-k.auto.lines, c.requires.lines) in

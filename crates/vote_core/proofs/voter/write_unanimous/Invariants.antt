@@ -4,7 +4,7 @@ use Rattle.vote_core.specs.Ledgers.{lines_below}
 use Rattle.vote_core.proofs.voter.write_unanimous.Given as goal
 
 abbrev pub invariant-loop-k : goal.invariant-loop-k
-invariant-loop-k l = record {
+invariant-loop-k g l = record {
   few : l.told ≤ l.k;
   written : (e : List ℕ) → IsWord l.basis.bits l.basis.n e → All (λ x. x ≡ 0) e → take l.told l.lines ≡ lines_below l.basis l.marks e l.k;
 }

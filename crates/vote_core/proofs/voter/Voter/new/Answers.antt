@@ -5,10 +5,10 @@ use Rattle.vote_core.proofs.States.{copied_more, copied_length}
 use Rattle.vote_core.proofs.voter.Voter.new.Goals as goal
 
 pub loop-k-preserved : goal.loop-k-preserved
-loop-k-preserved c = copied_more c.loop-k.marks.items c.push.new.self.items c.args.checked.now c.loop-k.k c.holds.result c.loop-k.invariant c.holds.ensures c.in_ok-push.ensures.items (omega (arith, c.requires.marks))
+loop-k-preserved g c = copied_more c.loop-k.marks.items c.push.new.self.items c.args.checked.now c.loop-k.k c.holds.result c.loop-k.invariant c.holds.ensures c.in_ok-push.ensures.items (omega (arith, c.requires.marks))
 
 pub invariant_of-result : goal.invariant_of-result
-invariant_of-result c = record {
+invariant_of-result g c = record {
   is_modulus = subst (λ (x : ℕ). IsModulus x c.modulus.result) (sym c.bits.ensures.value) (subst (λ (x : ℕ). IsModulus c.args.basis.now.bits x) (sym c.modulus.ensures.value) c.bits.ensures.sound.modulus);
   n_marks = copied_length c.loop-k.marks.items c.args.checked.now c.loop-k.k c.n-n.result c.loop-k.invariant (c.requires.marks ∙ sym c.n-n.ensures.value) (omega arith);
   n_lines = sym c.in_ok-vec.field-0.ok.0 ∙ c.in_ok-vec.ensures.len;

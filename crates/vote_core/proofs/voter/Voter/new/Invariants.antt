@@ -2,4 +2,4 @@ use Rattle.std.proofs.Common.{◌≡◌, take}
 use Rattle.vote_core.proofs.voter.Voter.new.Given as goal
 
 abbrev pub invariant-loop-k : goal.invariant-loop-k
-invariant-loop-k l = l.marks.items ≡ take l.k l.checked
+invariant-loop-k g l = l.marks.items ≡ take l.k l.checked
