@@ -73,7 +73,8 @@ fn find_zeros(values: &[u8], places: &mut [u32]) -> usize
 fn write_error(places: &[u32], values: &[u8], err: &mut [u8])
     requires same { length places.now ≡ length values.now }
     requires places { All (λ p. p < length err.old) places.now }
-    ensures symbols { (size : ℕ) → 0 < size → All (λ x. x < size) values.now → All (λ x. x < size) err.new }
+    ensures symbols { (size : ℕ) → 0 < size → All (λ x. x < size) values.now
+        → All (λ x. x < size) err.new }
     ensures long { length err.new ≡ length err.old }
 {
     err.fill(0);
@@ -91,15 +92,13 @@ fn is_zero(symbols: &[u8]) -> bool
 
 /// Writes the list that a function and its zeros give, if they give one.
 fn propose<F: Field>(
-    f: &F,
-    basis: &EvalBasis,
+    basis: &EvalBasis<F>,
     checked: &Checked,
     list: &[u8],
     syndromes: &[u8],
     finding: &mut Finding,
     err: &mut [u8],
 ) -> bool
-    requires bits { F.bits_of f.now ≡ basis.now.bits }
     requires marks { length checked.now ≡ basis.now.n }
     requires list { IsWord basis.now.bits basis.now.n list.now }
     requires syndromes { IsWord basis.now.bits basis.now.n syndromes.now }
@@ -109,13 +108,13 @@ fn propose<F: Field>(
     ensures long { length err.new ≡ length err.old }
     ensures room { IsFinding basis.now.bits basis.now.n finding.new }
 {
-    if !find_function(f, basis, checked, list, &mut finding.search) {
+    if !find_function(basis, checked, list, &mut finding.search) {
         return false;
     }
     let n = basis.n() as usize;
     let count = find_zeros(&finding.search.line[..n], &mut finding.places);
     let places = &finding.places[..count];
-    if !solve(f, basis, checked, syndromes, places, &mut finding.system) {
+    if !solve(basis, checked, syndromes, places, &mut finding.system) {
         return false;
     }
     write_error(places, &finding.system.values[..count], err);
@@ -124,8 +123,7 @@ fn propose<F: Field>(
 
 /// As `Locator::locate` says.
 fn locate_in<F: Field>(
-    f: &F,
-    basis: &EvalBasis,
+    basis: &EvalBasis<F>,
     checked: &Checked,
     t: u32,
     got: &[u8],
@@ -134,8 +132,6 @@ fn locate_in<F: Field>(
     finding: &mut Finding,
     err: &mut [u8],
 ) -> bool
-    requires bits { F.bits_of f.now ≡ basis.now.bits }
-    requires modulus { F.modulus_of f.now ≡ basis.now.modulus }
     requires marks { length checked.now ≡ basis.now.n }
     requires bound { IsBound basis.now checked.now (2 * t + 1) }
     requires received { length got.now ≡ basis.now.n }
@@ -143,27 +139,31 @@ fn locate_in<F: Field>(
     requires syndromes { length syndromes.old ≡ basis.now.n }
     requires room { IsFinding basis.now.bits basis.now.n finding.old }
     requires err { length err.old ≡ basis.now.n }
-    ensures error { IsTrue result → IsErrorOf (times basis.now) basis.now checked.now t (low_bits basis.now.bits got.now) err.new }
-    ensures only { IsTrue result → (e : List ℕ) → IsErrorOf (times basis.now) basis.now checked.now t (low_bits basis.now.bits got.now) e → e ≡ err.new }
+    ensures error { IsTrue result → IsErrorOf (times basis.now) basis.now checked.now t
+        (low_bits basis.now.bits got.now) err.new }
+    ensures only { IsTrue result → (e : List ℕ)
+        → IsErrorOf (times basis.now) basis.now checked.now t (low_bits basis.now.bits got.now) e
+        → e ≡ err.new }
     ensures long { length err.new ≡ length err.old }
     ensures room { IsFinding basis.now.bits basis.now.n finding.new }
 {
     low_symbols(basis.bits(), got, list);
-    write_syndromes(f, basis, checked, list, syndromes);
+    write_syndromes(basis, checked, list, syndromes);
     if is_zero(syndromes) {
         err.fill(0);
         return true;
     }
-    if !propose(f, basis, checked, list, syndromes, finding, err) {
+    if !propose(basis, checked, list, syndromes, finding, err) {
         return false;
     }
-    weight_of(err) <= t as usize && agrees(f, basis, checked, err, syndromes)
+    weight_of(err) <= t as usize && agrees(basis, checked, err, syndromes)
 }
 
 impl Locator {
     /// A locator for the lists of a basis, for errors of at most t symbols.
-    pub fn new(alloc: Global, basis: &EvalBasis, t: u32) -> Result<Locator, AllocError>
-        ensures { IfOk result (λ locator. locator ≡ record { bits = basis.now.bits; n = basis.now.n }) }
+    pub fn new<F: Field>(alloc: Global, basis: &EvalBasis<F>, t: u32) -> Result<Locator, AllocError>
+        ensures { IfOk result (λ locator. locator
+            ≡ record { bits = basis.now.bits; n = basis.now.n }) }
     {
         let bits = basis.bits();
         let n = basis.n();
@@ -188,27 +188,26 @@ impl Locator {
     /// False: none was located, though there may be one; `err` may hold anything. It takes no memory.
     pub fn locate<F: Field>(
         &mut self,
-        f: &F,
-        basis: &EvalBasis,
+        basis: &EvalBasis<F>,
         checked: &Checked,
         t: u32,
         got: &[u8],
         err: &mut [u8],
     ) -> bool
         requires fits { self.old ≡ record { bits = basis.now.bits; n = basis.now.n } }
-        requires bits { F.bits_of f.now ≡ basis.now.bits }
-        requires modulus { F.modulus_of f.now ≡ basis.now.modulus }
         requires marks { length checked.now ≡ basis.now.n }
         requires bound { IsBound basis.now checked.now (2 * t + 1) }
         requires received { length got.now ≡ basis.now.n }
         requires room { length err.old ≡ basis.now.n }
-        ensures error { IsTrue result → IsErrorOf (times basis.now) basis.now checked.now t (low_bits basis.now.bits got.now) err.new }
-        ensures only { IsTrue result → (e : List ℕ) → IsErrorOf (times basis.now) basis.now checked.now t (low_bits basis.now.bits got.now) e → e ≡ err.new }
+        ensures error { IsTrue result → IsErrorOf (times basis.now) basis.now checked.now t
+            (low_bits basis.now.bits got.now) err.new }
+        ensures only { IsTrue result → (e : List ℕ)
+            → IsErrorOf (times basis.now) basis.now checked.now t
+            (low_bits basis.now.bits got.now) e → e ≡ err.new }
         ensures long { length err.new ≡ length err.old }
         ensures kept { self.new ≡ self.old }
     {
         locate_in(
-            f,
             basis,
             checked,
             t,

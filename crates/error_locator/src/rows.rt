@@ -24,13 +24,15 @@ impl Model for Rows {
 
     ghost view = { λ s. record { bits = s.bits; width = s.width; count = s.count; size = s.size } };
 
-    ghost invariant = { λ s. HasRows s.bits s.size s.width s.count (vec_capacity s.symbols) s.symbols.items };
+    ghost invariant = { λ s. HasRows s.bits s.size s.width s.count
+        (vec_capacity s.symbols) s.symbols.items };
 }
 
 impl Rows {
     /// No row, and room for so many symbols.
     pub fn new(alloc: Global, bits: u32, size: usize) -> Result<Rows, AllocError>
-        ensures { IfOk result (λ rows. rows ≡ record { bits = bits; width = 0; count = 0; size = size }) }
+        ensures { IfOk result (λ rows. rows
+            ≡ record { bits = bits; width = 0; count = 0; size = size }) }
     {
         Ok(Rows {
             bits,

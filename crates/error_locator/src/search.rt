@@ -47,7 +47,7 @@ impl Search {
 }
 
 /// The rank below which all sums are known: that of the first member that is not checked.
-fn known_below(basis: &EvalBasis, checked: &Checked) -> u32
+fn known_below<F: Field>(basis: &EvalBasis<F>, checked: &Checked) -> u32
     requires { length checked.now ≡ basis.now.n }
     ensures { IsSoundBasis basis.now }
 {
@@ -91,15 +91,13 @@ pub fn scale<F: Field>(f: &F, factor: u8, line: &mut [u8])
 /// Takes from line i, column by column, what the rows have there, as far as the sums are known: where it then stands alone,
 /// or None where it vanishes on all of these columns.
 fn reduce<F: Field>(
-    f: &F,
-    basis: &EvalBasis,
+    basis: &EvalBasis<F>,
     limit: u32,
     i: u32,
     rows: &Rows,
     pivots: &[usize],
     line: &mut [u8],
 ) -> Option<Pivot>
-    requires bits { F.bits_of f.now ≡ basis.now.bits }
     requires member { i < basis.now.n }
     requires rows_bits { rows.now.bits ≡ basis.now.bits }
     requires rows_width { rows.now.width ≡ basis.now.n + basis.now.n }
@@ -115,13 +113,13 @@ fn reduce<F: Field>(
         if basis.sum_at(i, j) >= limit {
             return None;
         }
-        let value = dot(f, &line[n..], basis.vector(j));
+        let value = dot(basis.field(), &line[n..], basis.vector(j));
         if value != 0 {
             let row = pivots[j as usize];
             if row >= rows.count() {
                 return Some(Pivot { column: j, value });
             }
-            add_scaled(f, line, value, rows.row(row));
+            add_scaled(basis.field(), line, value, rows.row(row));
         }
     }
     None
@@ -130,13 +128,11 @@ fn reduce<F: Field>(
 /// Seeks a function that vanishes at the places of the error, among the members and their sums: one whose products with the
 /// list vanish on all columns that are known. Its values are then the first half of the line.
 pub fn find_function<F: Field>(
-    f: &F,
-    basis: &EvalBasis,
+    basis: &EvalBasis<F>,
     checked: &Checked,
     list: &[u8],
     search: &mut Search,
 ) -> bool
-    requires bits { F.bits_of f.now ≡ basis.now.bits }
     requires marks { length checked.now ≡ basis.now.n }
     requires word { IsWord basis.now.bits basis.now.n list.now }
     requires room { IsSearch basis.now.bits basis.now.n search.old }
@@ -147,9 +143,8 @@ pub fn find_function<F: Field>(
     search.rows.start(2 * n);
     search.pivots.fill(n);
     for i in 0..basis.n() {
-        start_line(f, list, basis.vector(i), &mut search.line);
+        start_line(basis.field(), list, basis.vector(i), &mut search.line);
         match reduce(
-            f,
             basis,
             limit,
             i,
@@ -162,7 +157,7 @@ pub fn find_function<F: Field>(
                 if !search.rows.has_room() {
                     return false;
                 }
-                add_row(f, pivot, search);
+                add_row(basis.field(), pivot, search);
             }
         }
     }

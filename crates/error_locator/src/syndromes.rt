@@ -23,27 +23,22 @@ pub fn low_symbols(bits: u32, bytes: &[u8], symbols: &mut [u8])
 }
 
 /// The product of a list and the vector of member k.
-fn syndrome<F: Field>(f: &F, basis: &EvalBasis, list: &[u8], k: u32) -> u8
-    requires bits { F.bits_of f.now ≡ basis.now.bits }
-    requires modulus { F.modulus_of f.now ≡ basis.now.modulus }
+fn syndrome<F: Field>(basis: &EvalBasis<F>, list: &[u8], k: u32) -> u8
     requires word { IsWord basis.now.bits basis.now.n list.now }
     requires member { k < basis.now.n }
     ensures value { result ≡ syndrome_of (times basis.now) basis.now list.now k }
     ensures symbol { result < 2 ^ basis.now.bits }
 {
-    dot(f, list, basis.vector(k))
+    dot(basis.field(), list, basis.vector(k))
 }
 
 /// Writes the syndrome of a list at each checked member, and 0 at the others.
 pub fn write_syndromes<F: Field>(
-    f: &F,
-    basis: &EvalBasis,
+    basis: &EvalBasis<F>,
     checked: &Checked,
     list: &[u8],
     syndromes: &mut [u8],
 )
-    requires bits { F.bits_of f.now ≡ basis.now.bits }
-    requires modulus { F.modulus_of f.now ≡ basis.now.modulus }
     requires word { IsWord basis.now.bits basis.now.n list.now }
     requires marks { length checked.now ≡ basis.now.n }
     requires room { length syndromes.old ≡ basis.now.n }
@@ -52,7 +47,7 @@ pub fn write_syndromes<F: Field>(
 {
     for k in 0..basis.n() {
         syndromes[k as usize] = if checked.holds(k) {
-            syndrome(f, basis, list, k)
+            syndrome(basis, list, k)
         } else {
             0
         };
@@ -61,21 +56,19 @@ pub fn write_syndromes<F: Field>(
 
 /// Whether a list has these syndromes at the checked members.
 pub fn agrees<F: Field>(
-    f: &F,
-    basis: &EvalBasis,
+    basis: &EvalBasis<F>,
     checked: &Checked,
     list: &[u8],
     syndromes: &[u8],
 ) -> bool
-    requires bits { F.bits_of f.now ≡ basis.now.bits }
-    requires modulus { F.modulus_of f.now ≡ basis.now.modulus }
     requires word { IsWord basis.now.bits basis.now.n list.now }
     requires marks { length checked.now ≡ basis.now.n }
     requires long { length syndromes.now ≡ basis.now.n }
-    ensures { IsTrue result ↔ ((k : ℕ) → k < basis.now.n → marked checked.now k ≡ true → syndrome_of (times basis.now) basis.now list.now k ≡ slice_index syndromes.now k) }
+    ensures { IsTrue result ↔ ((k : ℕ) → k < basis.now.n → marked checked.now k ≡ true
+        → syndrome_of (times basis.now) basis.now list.now k ≡ slice_index syndromes.now k) }
 {
     for k in 0..basis.n() {
-        if checked.holds(k) && syndrome(f, basis, list, k) != syndromes[k as usize] {
+        if checked.holds(k) && syndrome(basis, list, k) != syndromes[k as usize] {
             return false;
         }
     }

@@ -57,7 +57,8 @@ impl System {
 fn write_equation(values: &[u8], places: &[u32], right: u8, equation: &mut [u8])
     requires places { All (λ p. p < length values.now) places.now }
     requires long { length equation.old ≡ length places.now + 1 }
-    ensures symbols { (size : ℕ) → All (λ x. x < size) values.now → right < size → All (λ x. x < size) equation.new }
+    ensures symbols { (size : ℕ) → All (λ x. x < size) values.now → right < size
+        → All (λ x. x < size) equation.new }
     ensures long { length equation.new ≡ length equation.old }
 {
     let count = places.len();
@@ -129,8 +130,7 @@ fn take_in<F: Field>(f: &F, rows: &mut Rows, leads: &mut [u32], equation: &mut [
 
 /// Takes in the equations of the checked members, until there is one for each place: whether there is.
 fn collect<F: Field>(
-    f: &F,
-    basis: &EvalBasis,
+    basis: &EvalBasis<F>,
     checked: &Checked,
     syndromes: &[u8],
     places: &[u32],
@@ -138,7 +138,6 @@ fn collect<F: Field>(
     leads: &mut [u32],
     equation: &mut [u8],
 ) -> bool
-    requires bits { F.bits_of f.now ≡ basis.now.bits }
     requires marks { length checked.now ≡ basis.now.n }
     requires syndromes { IsWord basis.now.bits basis.now.n syndromes.now }
     requires places { All (λ p. p < basis.now.n) places.now }
@@ -158,7 +157,7 @@ fn collect<F: Field>(
     for k in 0..basis.n() {
         if checked.holds(k) {
             write_equation(basis.vector(k), places, syndromes[k as usize], equation);
-            if !take_in(f, rows, leads, equation) {
+            if !take_in(basis.field(), rows, leads, equation) {
                 return false;
             }
             if rows.count() == count {
@@ -190,8 +189,7 @@ fn substitute<F: Field>(f: &F, rows: &Rows, leads: &[u32], values: &mut [u8])
 
 /// The symbols at the places, if the syndromes tell them, in lists that are just long enough.
 fn find_values<F: Field>(
-    f: &F,
-    basis: &EvalBasis,
+    basis: &EvalBasis<F>,
     checked: &Checked,
     syndromes: &[u8],
     places: &[u32],
@@ -200,7 +198,6 @@ fn find_values<F: Field>(
     equation: &mut [u8],
     values: &mut [u8],
 ) -> bool
-    requires bits { F.bits_of f.now ≡ basis.now.bits }
     requires marks { length checked.now ≡ basis.now.n }
     requires syndromes { IsWord basis.now.bits basis.now.n syndromes.now }
     requires places { All (λ p. p < basis.now.n) places.now }
@@ -212,17 +209,16 @@ fn find_values<F: Field>(
     ensures rows_bits { rows.new.bits ≡ basis.now.bits }
     ensures symbols { IsTrue result → All (λ x. x < 2 ^ basis.now.bits) values.new }
 {
-    if !collect(f, basis, checked, syndromes, places, rows, leads, equation) {
+    if !collect(basis, checked, syndromes, places, rows, leads, equation) {
         return false;
     }
-    substitute(f, rows, leads, values);
+    substitute(basis.field(), rows, leads, values);
     true
 }
 
 /// The symbols at the places, if the syndromes tell them, as the first of the values.
 fn solve_in<F: Field>(
-    f: &F,
-    basis: &EvalBasis,
+    basis: &EvalBasis<F>,
     checked: &Checked,
     syndromes: &[u8],
     places: &[u32],
@@ -231,7 +227,6 @@ fn solve_in<F: Field>(
     equation: &mut [u8],
     values: &mut [u8],
 ) -> bool
-    requires bits { F.bits_of f.now ≡ basis.now.bits }
     requires marks { length checked.now ≡ basis.now.n }
     requires syndromes { IsWord basis.now.bits basis.now.n syndromes.now }
     requires places { All (λ p. p < basis.now.n) places.now }
@@ -241,11 +236,11 @@ fn solve_in<F: Field>(
     requires equation_long { length equation.old ≡ basis.now.n + 1 }
     requires values_long { length values.old ≡ basis.now.n }
     ensures rows_bits { rows.new.bits ≡ basis.now.bits }
-    ensures symbols { IsTrue result → All (λ x. x < 2 ^ basis.now.bits) (take (length places.now) values.new) }
+    ensures symbols { IsTrue result → All (λ x. x < 2 ^ basis.now.bits)
+        (take (length places.now) values.new) }
 {
     let count = places.len();
     find_values(
-        f,
         basis,
         checked,
         syndromes,
@@ -259,24 +254,22 @@ fn solve_in<F: Field>(
 
 /// The symbols at the places, if the syndromes tell them: then they are the first values.
 pub fn solve<F: Field>(
-    f: &F,
-    basis: &EvalBasis,
+    basis: &EvalBasis<F>,
     checked: &Checked,
     syndromes: &[u8],
     places: &[u32],
     system: &mut System,
 ) -> bool
-    requires bits { F.bits_of f.now ≡ basis.now.bits }
     requires marks { length checked.now ≡ basis.now.n }
     requires syndromes { IsWord basis.now.bits basis.now.n syndromes.now }
     requires places { All (λ p. p < basis.now.n) places.now }
     requires few { length places.now ≤ basis.now.n }
     requires room { IsSystem basis.now.bits basis.now.n system.old }
-    ensures symbols { IsTrue result → All (λ x. x < 2 ^ basis.now.bits) (take (length places.now) system.new.values.items) }
+    ensures symbols { IsTrue result → All (λ x. x < 2 ^ basis.now.bits)
+        (take (length places.now) system.new.values.items) }
     ensures room { IsSystem basis.now.bits basis.now.n system.new }
 {
     solve_in(
-        f,
         basis,
         checked,
         syndromes,
