@@ -3,7 +3,7 @@ use Rattle.std.proofs.Common.{◌≡◌, ◌⊎◌, inl, inr, ℕ, ◌<◌, ◌�
 use Rattle.std.specs.Prelude.{codes, if◌then◌else◌, option_and_then}
 use Rattle.std.specs.Option.{option_or}
 use Rattle.std.specs.List.{find}
-use Rattle.std.specs.Str.{IsUtf8, is_utf8}
+use Rattle.std.specs.Str.{is_utf8}
 use Rattle.std.proofs.lemmas.Bool.{cases_lt, or_parts}
 use Rattle.std.proofs.lemmas.Bool.Decides.{nat_tests}
 use Rattle.std.proofs.lemmas.Str.{IsUtf8-from_is_utf8, is_utf8-from_IsUtf8}
@@ -15,9 +15,9 @@ use Rattle.code_descriptor.specs.declared.KeyName.TheVariants as key
 use Rattle.code_descriptor.specs.declared.keys.NamedRule.TheVariants.{Weight, Improved}
 use Rattle.code_descriptor.specs.declared.DescCause.{DescCause}
 use Rattle.code_descriptor.specs.declared.DescCause.TheVariants.{TooLarge, NotToml, BadKey, BadField, BadDegrees, BadTerm, MissingLead, BadPoint, BadWeight, BadImproved, BadLayout, BadDepth, NoPoints, NothingFree}
-use Rattle.code_descriptor.specs.Tree.{is_there, integer_at, text_at, terms_at, points_at, is_bad, keys, bad_key, Named, NamedRule, NamedTerm, NamedPoint, IsNamedRule, packed_at, IsNamed}
+use Rattle.code_descriptor.specs.Tree.{is_there, integer_at, terms_at, points_at, is_bad, bad_key, Named, NamedRule, IsNamedRule, packed_at, IsNamed}
 use Rattle.code_descriptor.specs.Tests.{parts, refusals}
-use Rattle.code_descriptor.specs.Meaning.{Parts, IsTable, Names, AreParts, IsRefusedPart, IsRefusedFor, Describes, HasOneMeaning, MeansTheSame}
+use Rattle.code_descriptor.specs.Meaning.{Parts, IsTable, Names, IsRefusedPart, IsRefusedFor, Describes, HasOneMeaning, MeansTheSame}
 use Rattle.code_descriptor.proofs.Tested.{found, none_found, refused_part, are_parts, plain_parts}
 
 -- ---- what stands at the keys, and for a bad key 0 or nothing
@@ -261,9 +261,9 @@ small_means text small false e o h = inl (NotToml, (small, λ t is. let u = is_u
 means : (text : List ℕ) → Means text
 unfolding Means
 means text = elim (cases_lt 1048576 (length text)) [
-    | inl large ↦ inl (TooLarge, large)
-    | inr small ↦ small_means text small (is_utf8 text) refl (parse_document text) refl
-  ]
+  | inl large ↦ inl (TooLarge, large)
+  | inr small ↦ small_means text small (is_utf8 text) refl (parse_document text) refl
+]
 
 pub one_meaning : (text : List ℕ) → HasOneMeaning text
 unfolding Means

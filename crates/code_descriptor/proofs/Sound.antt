@@ -1,5 +1,5 @@
 -- Parts that are all there are those of a descriptor
-use Rattle.std.proofs.Common.{◌≡◌, ℕ, ◌<◌, ◌≤◌, ◌^◌, Bool, true, false, not, ◌&&◌, ◌||◌, List, length, map, Option, None, refl, sym, ap, ◌∙◌, subst, arith}
+use Rattle.std.proofs.Common.{◌≡◌, ℕ, ◌<◌, ◌≤◌, ◌^◌, Bool, not, ◌&&◌, List, length, map, None, refl, sym, ap, ◌∙◌, subst}
 use Rattle.std.proofs.lemmas.List.{length-map}
 use Rattle.std.proofs.lemmas.Bool.{and_parts, or_parts, not-false}
 use Rattle.curve_theory.specs.declared.Term.{Term}
@@ -7,16 +7,15 @@ use Rattle.curve_theory.specs.Curve.{has_term}
 use Rattle.cab_curve.specs.First.{least, first_of}
 use Rattle.order_domain.specs.declared.Point.{Point}
 use Rattle.code_descriptor.specs.declared.space.Space.TheVariants.{Cab}
-use Rattle.cab_curve.specs.Equation.{Equation, IsCurve, is_bad_term, misses_lead}
+use Rattle.cab_curve.specs.Equation.{Equation, IsCurve, is_bad_term}
 use Rattle.cab_curve.proofs.Least.{least-same, least-none}
 use Rattle.cab_curve.proofs.Accepted.{accepted}
 use Rattle.eval_basis.specs.declared.checked.CheckRule.{CheckRule}
-use Rattle.eval_basis.specs.declared.checked.CheckRule.TheVariants.{AtMost, Small}
 use Rattle.code_descriptor.specs.declared.keys.NamedRule.TheVariants.{Weight, Improved}
 use Rattle.code_descriptor.specs.Tree.{Named, NamedRule, NamedTerm}
 use Rattle.code_descriptor.specs.Tests.{nat, fits_u32, plain_term, plain_point, plain_rule, packed_or, named_term_at, is_bad_named_term, first_bad_term, point_refusal, parts, refusals}
 use Rattle.code_descriptor.specs.Parts.{IsDescriptor, number_of}
-use Rattle.code_descriptor.specs.Meaning.{Parts, HasCurve, HasPoints, HasDegrees, IsRule, AreParts, Describes}
+use Rattle.code_descriptor.specs.Meaning.{Parts, HasCurve, HasPoints, IsRule, AreParts, Describes}
 use Rattle.code_descriptor.proofs.PointLoop.{all_few, all_on_curve, all_distinct}
 use Rattle.code_descriptor.proofs.Tested.{are_parts, none_found, plain_parts}
 

@@ -1,11 +1,11 @@
 -- What the tests of what stands at the keys say: which parts it has, or for which cause it is refused
-use Rattle.std.proofs.Common.{◌≡◌, ℕ, suc, ◌+◌, ◌<◌, ◌≤◌, ◌^◌, ℤ, pos, negsuc, Bool, true, false, not, ◌&&◌, ◌||◌, leb, List, map, length, Option, Some, None, is_none, option_map, refl, sym, ap, ap₂, ◌∙◌, subst, arith}
+use Rattle.std.proofs.Common.{◌≡◌, ℕ, ◌+◌, ◌<◌, ◌≤◌, ◌^◌, ℤ, pos, negsuc, Bool, true, false, not, ◌&&◌, leb, List, map, Option, Some, None, is_none, option_map, refl, sym, ap, ap₂, ◌∙◌, subst, arith}
 use Rattle.std.proofs.Math.Nat.{pow-le-pow_right}
 use Rattle.std.proofs.lemmas.Bool.{and_parts, and_from, both_ways, false_from_ne_true, leb-true, le-leb}
 use Rattle.std.specs.Option.{option_or}
 use Rattle.curve_theory.specs.declared.Term.{Term}
 use Rattle.gf_theory.specs.Field.{IsModulus}
-use Rattle.weight_semi.specs.Generators.{AreGenerators, are_generators}
+use Rattle.weight_semi.specs.Generators.{are_generators}
 use Rattle.weight_semi.proofs.Coprime.{are_generators-decides}
 use Rattle.cab_curve.specs.First.{when, first_of}
 use Rattle.cab_curve.specs.Equation.{misses_lead}

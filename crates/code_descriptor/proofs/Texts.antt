@@ -1,5 +1,5 @@
 -- From what is read of a table to the meaning of its text
-use Rattle.std.proofs.Common.{◌≡◌, ◌⊎◌, inl, inr, ℕ, ◌≤◌, List, length, Option, Some, None, option_map, Result, Ok, Err, MatchResult, IfOk, refl, sym, subst}
+use Rattle.std.proofs.Common.{◌≡◌, inl, inr, ℕ, ◌≤◌, List, length, Option, Some, None, option_map, Result, Ok, Err, MatchResult, IfOk, refl, sym, subst}
 use Rattle.std.specs.Str.{IsUtf8}
 use Rattle.toml.specs.Data.{Members}
 use Rattle.toml.specs.Parse.{parse_document}
@@ -12,7 +12,7 @@ use Rattle.code_descriptor.specs.declared.DescError.TheVariants.{NoMemory, Refus
 use Rattle.code_descriptor.specs.Tree.{bad_key, Named, IsNamed}
 use Rattle.code_descriptor.specs.Tests.{parts, refusals}
 use Rattle.code_descriptor.specs.Meaning.{Parts, IsTable, Names, IsRefusedFor, Describes}
-use Rattle.code_descriptor.specs.Views.{IsRefusal, IsAccepted, IsRefusedTable, IsTableRefusal}
+use Rattle.code_descriptor.specs.Views.{IsRefusal, IsAccepted, IsTableRefusal}
 use Rattle.code_descriptor.proofs.OneMeaning.{part_is_described, part_is_refused}
 
 -- ---- a table
@@ -45,9 +45,9 @@ module _ (text : List ℕ) (t : Members) (is : IsTable text t) where
 
   table_refused : (c : DescCause) → IsTableRefusal t (Refused c) → IsRefusedFor text c
   table_refused c h = elim h [
-      | inl k ↦ subst (IsRefusedFor text) (sym k.1) (t, is, k.2)
-      | inr w ↦ part_is_refused text w.named (names_of w.named w.no_bad_key w.is_named) c w.refusal
-    ]
+    | inl k ↦ subst (IsRefusedFor text) (sym k.1) (t, is, k.2)
+    | inr w ↦ part_is_refused text w.named (names_of w.named w.no_bad_key w.is_named) c w.refusal
+  ]
 
   pub refused : (r : Result Parts DescError) → MatchResult r (IsAccepted t) (IsTableRefusal t) → (c : DescCause) → r ≡ Err (Refused c) → IsRefusedFor text c
   refused r h c e =

@@ -61,11 +61,12 @@ pub fn curve_of(
 ) -> Result<Curve, DescError>
     ensures { MatchResult result
         (λ c. (term_refusal (2 ^ field.now.bits) degrees.a degrees.b terms.now ≡ None)
-            × (c ≡ record {
-                bits = field.now.bits;
-                a = degrees.a;
-                b = degrees.b;
-                terms = map plain_term terms.now }))
+        × (c ≡ record {
+          bits = field.now.bits;
+          a = degrees.a;
+          b = degrees.b;
+          terms = map plain_term terms.now;
+        }))
         (λ e. IsRefusal e (term_refusal (2 ^ field.now.bits) degrees.a degrees.b terms.now)) }
 {
     if terms.len() > 4_294_967_295 {

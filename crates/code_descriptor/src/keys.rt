@@ -38,7 +38,7 @@ fn integer_key(table: &Table, key: &str, name: KeyName) -> Result<i64, DescError
     ensures { MatchResult result
         (λ z. integer_at key.now (table_view table.now) ≡ Some z)
         (λ e. (e ≡ DescError.Refused (DescCause.BadKey name))
-            × (integer_at key.now (table_view table.now) ≡ None)) }
+        × (integer_at key.now (table_view table.now) ≡ None)) }
 {
     match integer_at(table, key) {
         Some(z) => Ok(z),
@@ -61,7 +61,7 @@ fn points_key(alloc: Global, table: &Table) -> Result<Vec<NamedPoint>, DescError
     ensures { MatchResult result
         (λ v. points_at (codes "points") (table_view table.now) ≡ Some v.items)
         (λ e. IsKeyRefusal e KeyName.Points
-            (points_at (codes "points") (table_view table.now))) }
+        (points_at (codes "points") (table_view table.now))) }
 {
     let key = KeyName::Points;
     points_at(alloc, table, "points")?.ok_or(DescCause::BadKey { key }.into())
@@ -71,10 +71,10 @@ fn points_key(alloc: Global, table: &Table) -> Result<Vec<NamedPoint>, DescError
 fn rule_key(table: &Table) -> Result<NamedRule, KeyName>
     ensures { MatchResult result
         (λ r. (is_bad (table_view table.now) KeyName.Weight ≡ false)
-            × (is_bad (table_view table.now) KeyName.Improved ≡ false)
-            × IsNamedRule (table_view table.now) r)
+        × (is_bad (table_view table.now) KeyName.Improved ≡ false)
+        × IsNamedRule (table_view table.now) r)
         (λ key. find (is_bad (table_view table.now)) (KeyName.Weight ∷ KeyName.Improved ∷ [])
-            ≡ Some key) }
+        ≡ Some key) }
 {
     if !is_there(table, "improved") {
         return match integer_at(table, "weight") {
@@ -111,7 +111,7 @@ fn packed_by(text: &str) -> Option<bool>
 fn layout_key(table: &Table) -> Result<Option<bool>, KeyName>
     ensures { MatchResult result
         (λ packed. (is_bad (table_view table.now) KeyName.Layout ≡ false)
-            × (packed_at (table_view table.now) ≡ packed))
+        × (packed_at (table_view table.now) ≡ packed))
         (λ key. (key ≡ KeyName.Layout) × (is_bad (table_view table.now) KeyName.Layout ≡ true)) }
 {
     match text_at(table, "layout") {

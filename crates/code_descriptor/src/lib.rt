@@ -11,7 +11,7 @@ mod points;
 mod space;
 mod tree;
 
-ghost use Rattle.std.specs.Prelude.{◌≡◌, ℕ, ◌<◌, ◌↔◌, length, true, IfOk, IfErr, MatchResult, None};
+ghost use Rattle.std.specs.Prelude.{◌≡◌, ℕ, ◌<◌, ◌↔◌, length, true, IfOk, MatchResult};
 ghost use Rattle.gf_theory.specs.Field.{IsModulus};
 ghost use Rattle.toml.specs.View.{table_view};
 ghost use Rattle.code_descriptor.specs.FieldTest.{is_modulus};
@@ -171,8 +171,6 @@ pub fn read(alloc: Global, text: &[u8]) -> Result<Descriptor, DescError>
         Err(_) => Err(DescCause::NotToml.into()),
     }
 }
-
-
 
 #[cfg(test)]
 mod tests;

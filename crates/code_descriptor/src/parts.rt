@@ -1,6 +1,6 @@
 //! From the integers of a text to a descriptor.
 
-ghost use Rattle.std.specs.Prelude.{◌≡◌, ℕ, ◌≤◌, true, false, IfSome, MatchOption, MatchResult, None, unwrap_or, is_none};
+ghost use Rattle.std.specs.Prelude.{◌≡◌, ℕ, ◌≤◌, true, false, IfSome, MatchOption, MatchResult, None};
 ghost use Rattle.weight_semi.specs.Generators.{AreGenerators};
 ghost use Rattle.cab_curve.specs.First.{first_of};
 ghost use Rattle.code_descriptor.specs.FieldTest.{is_modulus};

@@ -1,7 +1,6 @@
 //! From the points of a text to points of a curve.
 
 ghost use Rattle.std.specs.Prelude.{◌≡◌, ℕ, ◌+◌, ◌<◌, true, false, None, [], ◌∷◌, ◌++◌, IfSome, MatchOption, MatchResult, map, take, length};
-ghost use Rattle.order_domain.specs.Points.{IsPointList};
 ghost use Rattle.code_descriptor.specs.Tests.{plain_point, has_point, is_curve_point, is_bad_point, point_refusal};
 ghost use Rattle.code_descriptor.specs.Views.{IsRefusal};
 
@@ -32,7 +31,7 @@ fn curve_point(field: &PolyField, curve: &Curve, point: NamedPoint) -> Option<Po
     ensures { MatchOption result
         (is_curve_point field.now.bits field.now.modulus curve.now.terms point ≡ false)
         (λ p. (is_curve_point field.now.bits field.now.modulus curve.now.terms point ≡ true)
-            × (p ≡ plain_point point)) }
+        × (p ≡ plain_point point)) }
 {
     let greatest = (1u32 << field.bits()) - 1;
     let x = within(point.x, 0, greatest)?;
@@ -64,7 +63,7 @@ fn next_point(
     ensures point { MatchOption result
         (is_bad_point field.now.bits field.now.modulus curve.now.terms points.now k ≡ true)
         (λ p. (is_bad_point field.now.bits field.now.modulus curve.now.terms points.now k ≡ false)
-            × (map plain_point (take (k + 1) points.now) ≡ before.now ++ p ∷ [])) }
+        × (map plain_point (take (k + 1) points.now) ≡ before.now ++ p ∷ [])) }
     ensures fresh { IfSome result (λ p. has_point before.now p ≡ false) }
     ensures room { IfSome result (λ _. k < MOST_POINTS) }
 {
@@ -88,9 +87,9 @@ pub fn points_of(
     requires { field.now.bits ≡ curve.now.bits }
     ensures { MatchResult result
         (λ v. (point_refusal field.now.bits field.now.modulus curve.now.terms points.now ≡ None)
-            × (v ≡ map plain_point points.now))
+        × (v ≡ map plain_point points.now))
         (λ e. IsRefusal e
-            (point_refusal field.now.bits field.now.modulus curve.now.terms points.now)) }
+        (point_refusal field.now.bits field.now.modulus curve.now.terms points.now)) }
 {
     let mut plain = Points::new(alloc);
     for k in 0..points.len() {

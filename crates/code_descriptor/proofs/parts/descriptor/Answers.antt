@@ -1,4 +1,4 @@
-use Rattle.std.proofs.Common.{◌≡◌, Some, None, rules}
+use Rattle.std.proofs.Common.{◌≡◌, None, rules}
 use Rattle.cab_curve.specs.First.{first_of}
 use Rattle.code_descriptor.specs.Tests.{refusals}
 use Rattle.code_descriptor.specs.Views.{named_of}
