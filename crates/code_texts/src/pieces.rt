@@ -42,7 +42,8 @@ pub fn push_term(
     weight: u32,
     c: u8,
 ) -> Result<(), AllocError>
-    ensures { IfOk result (λ _. text.new.items ≡ text.old.items ++ 32 ∷ (decimal weight ++ codes ":" ++ decimal c)) }
+    ensures { IfOk result (λ _. text.new.items
+        ≡ text.old.items ++ 32 ∷ (decimal weight ++ codes ":" ++ decimal c)) }
 {
     line.clear();
     line.word(" ");
