@@ -20,7 +20,8 @@ use weight_semi::Semi;
 /// label. All calls but [`CabDomain::new`] answer from its tables.
 #[derive(Drop)]
 pub struct CabDomain {
-    curve: Curve,
+    /// The curve, whose functions they are.
+    pub curve: Curve,
     functions: FunctionTable,
     // the coefficients of x^b and of y^a
     x_lead: u8,
@@ -35,7 +36,9 @@ impl CabDomain {
     /// The domain of the curve, whose symbols have `bits` bits.
     pub fn new(alloc: Global, curve: Curve, bits: u32) -> Result<CabDomain, AllocError>
         requires { curve.bits ≡ bits }
-        ensures { IfOk result (λ d. ⟦<CabDomain as OrderDomain>⟧.domain d ≡ cab_domain curve) }
+        ensures domain { IfOk result (λ d.
+            ⟦<CabDomain as OrderDomain>⟧.domain d ≡ cab_domain curve) }
+        ensures curve { IfOk result (λ d. d.curve ≡ curve) }
     {
         let a = curve.a();
         let b = curve.b();
