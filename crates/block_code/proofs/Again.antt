@@ -1,8 +1,7 @@
 -- What encoding the low bits of a block again takes and gives
-use Rattle.std.proofs.Common.{◌≡◌, ℕ, ◌<◌, ◌^◌, ◌%◌, ◌↔◌, List, length, map, get_or, slice_index, sym, ◌∙◌, ap, subst, arith}
+use Rattle.std.proofs.Common.{◌≡◌, ℕ, ◌<◌, ◌^◌, ◌↔◌, List, length, map, get_or, slice_index, sym, ◌∙◌, ap, subst, arith}
 use Rattle.std.specs.Prelude.{Contains}
 use Rattle.std.proofs.lemmas.List.{get_or-map, get_or_default, length-map}
-use Rattle.std.proofs.lemmas.Nat.{mod_below, pow_pos}
 use Rattle.order_theory.specs.Basis.{IsWord, times}
 use Rattle.order_theory.specs.Codes.{IsCodeword, low_bits}
 use Rattle.order_theory.proofs.Errors.{low_word}

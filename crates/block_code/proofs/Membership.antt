@@ -16,7 +16,7 @@ use Rattle.eval_basis.specs.declared.checked.CheckRule.{CheckRule}
 use Rattle.eval_basis.specs.Rules.{rule_checks, checked_by}
 use Rattle.eval_basis.specs.Built.{IsBuilt}
 use Rattle.eval_basis.proofs.Marks.{marked-checked_by}
-use Rattle.block_code.specs.Compiling.{AreAllChecked}
+use Rattle.eval_basis.specs.Members.{AreAllChecked}
 
 -- whether index i is that of a member
 cases_member : (b : Basis) (i : ℕ) → ((k : ℕ) × (k < b.n) × (rank_at b k ≡ i)) ⊎ ((k : ℕ) → k < b.n → i ≡ rank_at b k → ⊥)

@@ -28,10 +28,7 @@ pub record IsMade (c : Compiled) : Type 0 where
   pub bound : IsOrderBound c.basis c.marks c.bound
   pub radius : IsRadius c.bound c.radius
 
--- the field has these bits and this modulus
-pub record IsKept (bits modulus : ℕ) (parity : ParityChecks) (c : Compiled) : Type 0 where
-  pub field_bits : bits ≡ c.basis.bits
-  pub field_modulus : modulus ≡ c.basis.modulus
+pub record IsKept (parity : ParityChecks) (c : Compiled) : Type 0 where
   pub parity_is : parity ≡ checks_in c
   pub made : IsMade c
 

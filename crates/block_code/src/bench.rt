@@ -83,7 +83,8 @@ impl Bench {
         requires received { length got.now ≡ code.now.basis.n }
         requires positions { length word.old ≡ code.now.basis.n }
         ensures verdict { IsVerdict code.now got.now word.new result }
-        ensures bench { self.new ≡ record self.old { ledger = ledger_after code.now got.now word.new result } }
+        ensures bench { self.new
+            ≡ record self.old { ledger = ledger_after code.now got.now word.new result } }
         ensures majority { All (λ line. line.wrong < line.right) self.new.ledger }
         ensures made { IsMade code.now }
     {

@@ -3,21 +3,22 @@
 ghost use Rattle.std.specs.Prelude.{ℕ, ◌≡◌, ◌+◌, ◌<◌, ◌≤◌, ◌*◌, [], List, All, length, count_by, slice_index, IfOk, Err};
 ghost use Rattle.order_theory.specs.Basis.{IsWord, IsSoundBasis};
 ghost use Rattle.order_theory.specs.Codes.{IsRadius};
-ghost use Rattle.order_domain.specs.Domain.{ArePoints};
+ghost use Rattle.order_domain.specs.Domain.{AreOn};
 ghost use Rattle.eval_basis.specs.Rules.{checked_by};
 ghost use Rattle.eval_basis.specs.Built.{IsBuilt};
+ghost use Rattle.eval_basis.specs.Members.{AreAllChecked};
 ghost use Rattle.block_theory.specs.Checks.{message_places, IsWordOf};
 ghost use Rattle.block_theory.specs.Blocks.{word_of};
 ghost use Rattle.block_code.specs.Compiled.{checks_in, IsMade, numbers_of};
-ghost use Rattle.block_code.specs.Compiling.{AreAllChecked};
 ghost use Rattle.block_code.specs.Decoding.{IsVerdict, ledger_after};
 
 use crate::bench::Bench;
+use ag_pool::Workers;
 use coded_block::Verdict;
 use eval_basis::{CheckRule, Checked, EvalBasis};
 use gf_field::Field;
 use order_bound::bound;
-use order_domain::{OrderDomain, Point};
+use order_domain::{OrderDomain, Points};
 use parity_space::Parity;
 use std::alloc::{AllocError, Global};
 use std::marker::Model;
@@ -47,8 +48,7 @@ impl From<AllocError> for CompileFault {
 /// Threads may share it. No call takes memory, but `compile` and `bench`.
 #[derive(Drop)]
 pub struct Code<F: Field> {
-    field: F,
-    basis: EvalBasis,
+    basis: EvalBasis<F>,
     checked: Checked,
     parity: Parity,
     bound: u32,
@@ -60,9 +60,19 @@ impl<F: Field> Model for Code<F> {
 
     ghost Value = { Compiled };
 
-    ghost view = { λ s. record { basis = s.basis; marks = s.checked; bound = s.bound; radius = s.radius } };
+    ghost view = { λ s. record {
+      basis = s.basis;
+      marks = s.checked;
+      bound = s.bound;
+      radius = s.radius;
+    } };
 
-    ghost invariant = { λ s. IsKept (F.bits_of s.field) (F.modulus_of s.field) s.parity (record { basis = s.basis; marks = s.checked; bound = s.bound; radius = s.radius }) };
+    ghost invariant = { λ s. IsKept s.parity (record {
+      basis = s.basis;
+      marks = s.checked;
+      bound = s.bound;
+      radius = s.radius;
+    }) };
 }
 
 // The greatest number whose double is below the bound.
@@ -74,41 +84,39 @@ fn radius_of(bound: u32) -> u32
 }
 
 impl<F: Field> Code<F> {
-    /// The code of a domain at 1 to 1,024 distinct points of it, with the members checked that the rule names. The field has
-    /// the domain's bits, and the number of workers is 1 to 64. NothingFree: the rule checks every member. NoMemory may come
-    /// in place of any answer.
+    /// The code of a domain at distinct points of it, one or more, with the members checked that the rule names. The field
+    /// has the domain's bits. NothingFree: the rule checks every member. NoMemory may come in place of any answer.
     pub fn compile<X: Threads + Sync, D: OrderDomain>(
         rt: &X,
         alloc: Global,
         field: F,
         dom: &D,
-        points: &[Point],
+        points: &Points,
         rule: CheckRule,
-        workers: u32,
+        workers: Workers,
     ) -> Result<Code<F>, CompileFault>
     where
         F: Sync,
         requires bits { F.bits_of field ≡ (D.domain dom.now).bits }
         requires some_points { 1 ≤ length points.now }
-        requires few_points { length points.now ≤ 1024 }
-        requires points { ArePoints (D.domain dom.now) (F.modulus_of field) points.now }
-        requires some_workers { 1 ≤ workers }
-        requires few_workers { workers ≤ 64 }
-        ensures basis { IfOk result (λ c. IsBuilt (D.domain dom.now) (F.modulus_of field) points.now c.basis) }
+        requires on { AreOn (D.domain dom.now) (F.modulus_of field) points.now }
+        ensures basis { IfOk result (λ c. IsBuilt (D.domain dom.now)
+            (F.modulus_of field) points.now c.basis) }
         ensures marks { IfOk result (λ c. c.marks ≡ checked_by c.basis rule) }
         ensures made { IfOk result IsMade }
-        ensures some_free { IfOk result (λ c. AreAllChecked (D.domain dom.now) (F.modulus_of field) points.now rule → ⊥) }
-        ensures nothing_free { result ≡ Err CompileFault.NothingFree → AreAllChecked (D.domain dom.now) (F.modulus_of field) points.now rule }
+        ensures some_free { IfOk result (λ c. AreAllChecked (D.domain dom.now)
+            (F.modulus_of field) points.now rule → ⊥) }
+        ensures nothing_free { result ≡ Err CompileFault.NothingFree
+            → AreAllChecked (D.domain dom.now) (F.modulus_of field) points.now rule }
     {
-        let basis = EvalBasis::build(rt, alloc, &field, dom, points, workers)?;
+        let basis = EvalBasis::build(rt, alloc, field, dom, points, workers)?;
         let checked = Checked::new(alloc, &basis, rule)?;
         let Some(least) = bound(&basis, &checked) else {
             return Err(CompileFault::NothingFree);
         };
-        let parity = Parity::build(alloc, &field, &basis, &checked)?;
+        let parity = Parity::build(alloc, &basis, &checked)?;
         let radius = radius_of(least);
         Ok(Code {
-            field,
             basis,
             checked,
             parity,
@@ -157,7 +165,7 @@ impl<F: Field> Code<F> {
     }
 
     /// The basis, with the members in rising order.
-    pub fn basis(&self) -> &EvalBasis
+    pub fn basis(&self) -> &EvalBasis<F>
         ensures value { result.now ≡ self.now.basis }
         ensures made { IsMade self.now }
     {
@@ -179,23 +187,24 @@ impl<F: Field> Code<F> {
         &self.parity
     }
 
-    /// The field of `compile`.
+    /// The field of the basis.
     pub fn field(&self) -> &F
         ensures bits { F.bits_of result.now ≡ self.now.basis.bits }
         ensures modulus { F.modulus_of result.now ≡ self.now.basis.modulus }
     {
-        &self.field
+        self.basis.field()
     }
 
     /// Makes `word` the codeword that has `msg`, k symbols, at the message places. There is exactly one.
     pub fn encode_block(&self, msg: &[u8], word: &mut [u8])
-        requires message { IsWord self.now.basis.bits (length (message_places (checks_in self.now))) msg.now }
+        requires message { IsWord self.now.basis.bits
+            (length (message_places (checks_in self.now))) msg.now }
         requires positions { length word.old ≡ self.now.basis.n }
         ensures word { IsWordOf (checks_in self.now) msg.now word.new }
         ensures only { (x : List ℕ) → IsWordOf (checks_in self.now) msg.now x → x ≡ word.new }
         ensures value { word.new ≡ word_of (checks_in self.now) msg.now }
     {
-        self.parity.complete(&self.field, msg, word);
+        self.parity.complete(self.basis.field(), msg, word);
     }
 
     /// Makes `word` the codeword near the n bytes of `got`: the one that differs from them in at most `radius` bytes, of
@@ -206,7 +215,8 @@ impl<F: Field> Code<F> {
         requires received { length got.now ≡ self.now.basis.n }
         requires positions { length word.old ≡ self.now.basis.n }
         ensures verdict { IsVerdict self.now got.now word.new result }
-        ensures bench { bench.new ≡ record bench.old { ledger = ledger_after self.now got.now word.new result } }
+        ensures bench { bench.new
+            ≡ record bench.old { ledger = ledger_after self.now got.now word.new result } }
         ensures majority { All (λ line. line.wrong < line.right) bench.new.ledger }
         ensures made { IsMade self.now }
     {

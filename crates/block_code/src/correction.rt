@@ -84,11 +84,12 @@ pub fn find_near<F: Field>(
     requires positions { length word.old ≡ code.now.basis.n }
     ensures verdict { IsVerdict code.now got.now word.new result }
     ensures rest { voter.new ≡ record voter.old { ledger = voter.new.ledger } }
-    ensures ledger { result ≢ Verdict.Beyond → voter.new.ledger ≡ ledger_after code.now got.now word.new result }
+    ensures ledger { result ≢ Verdict.Beyond
+        → voter.new.ledger ≡ ledger_after code.now got.now word.new result }
     ensures majority { All (λ line. line.wrong < line.right) voter.new.ledger }
     ensures made { IsMade code.now }
 {
-    match voter.find(code.field(), code.basis(), got, word) {
+    match voter.find(code.basis(), got, word) {
         Found::Error => settle(code.bits(), code.radius(), got, word),
         Found::Far => {
             write_low_bits(code.bits(), got, word);
@@ -105,6 +106,7 @@ fn encode_again<F: Field>(code: &Code<F>, got: &[u8], msg: &mut [u8], word: &mut
     ensures codeword { IsCodeword (times code.now.basis) code.now.basis code.now.marks word.new }
     ensures made { IsMade code.now }
 {
+    // For its facts: a code is as it was made, so its basis is sound.
     code.n();
     write_low_bits(code.bits(), got, word);
     take_places(code.parity().places(), word, msg);
@@ -137,14 +139,7 @@ pub fn repair_near<F: Field>(
     if changes <= code.radius() {
         return Verdict::Near { changes };
     }
-    if locator.locate(
-        code.field(),
-        code.basis(),
-        code.checked(),
-        code.radius(),
-        got,
-        word,
-    ) {
+    if locator.locate(code.basis(), code.checked(), code.radius(), got, word) {
         return settle(code.bits(), code.radius(), got, word);
     }
     find_near(voter, code, got, word)

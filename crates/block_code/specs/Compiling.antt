@@ -1,3 +1,0 @@
--- IsMember        as in eval_basis
--- AreAllChecked   as in eval_basis
-pub use Rattle.eval_basis.specs.Members.{IsMember, AreAllChecked}
