@@ -1,5 +1,5 @@
 -- Slots whose blocks have nears.
-use Rattle.std.proofs.Common.{ℕ, ◌*◌, ◌<◌, ◌≤◌, ◌≡◌, List, [], ◌++◌, length, map, get_or, All, Option, Some, None, unwrap_or, refl, sym, ap, ap₂, ◌∙◌, subst, arith}
+use Rattle.std.proofs.Common.{false, ℕ, ◌*◌, ◌<◌, ◌≤◌, ◌≡◌, List, [], ◌++◌, length, map, get_or, All, Option, Some, None, unwrap_or, refl, sym, ap, ap₂, ◌∙◌, subst, arith}
 use Rattle.std.specs.Prelude.{◌^◌, ◌%◌}
 use Rattle.std.proofs.lemmas.List.{get_or-map, length-map, get_or_default}
 use Rattle.std.proofs.Math.Nat.{mul-le-mul}
@@ -57,7 +57,7 @@ kept_words F slots each =
 
 pub writer_small : (F : Form) (s : OutState) (count : ℕ) → IsCode F → count ≤ 64 → s.size ≡ count * F.k → s.width ≡ F.bits → out_bits s ≤ 524288
 writer_small F s count code few size width =
-    let sound = code.sound 1 (omega arith) in
+    let sound = code.sound 1 false (omega arith) in
     let k : F.k ≤ 1024 = omega (arith, sound.k_within_n, code.n_most) in
     let symbols : count * F.k ≤ 64 * 1024 = mul-le-mul few k in
     let bits : count * F.k * F.bits ≤ 64 * 1024 * 8 = mul-le-mul symbols sound.bits_within_byte in

@@ -17,18 +17,20 @@ use Rattle.stored_form.proofs.CoderLemmas.{symbols_of-append_rest}
 use Rattle.stored_form.proofs.StreamLemmas.{blocks_of_rest, blocks_more, differences_push, reading_beyond_at}
 use Rattle.stored_form.proofs.DecoderLemmas.{AllNear-more, corrected-append, corrected_more, length-corrected_at, whole_bytes_front}
 use Rattle.stream_codec.proofs.ToldLemmas.{changes_to_front, changes_to-append, told_at_least}
+use Rattle.ag_frame.specs.declared.frame.Layout.{Layout}
+use Rattle.stream_codec.specs.Layouts.{in_groups}
+use Rattle.stream_codec.specs.Sinks.{sinks_of}
 use Rattle.stream_codec.specs.Dealing.{IsNear, FirstLost, counted, GroupDealt, GroupFault, Dealt, TextRefused, TextFault}
 use Rattle.ag_io.specs.Views.{SinkView}
-use Rattle.stream_codec.specs.Giving.{Wrote, WroteSome}
+use Rattle.ag_io.specs.Puts.{Wrote, WroteSome}
 use Rattle.stream_codec.specs.Report.{changes_to, place_changes, changes_from, lines_of, lines, done, report_of, sure_bytes}
 use Rattle.stream_codec.specs.Writing.{bytes_left}
-use Rattle.coded_block.specs.Codes.{at_depth}
 use Rattle.stream_codec.proofs.WritingLemmas.{out_with}
 use Rattle.stream_codec.specs.declared.decode.DecodeCounts.{DecodeCounts}
 use Rattle.stream_codec.specs.declared.decode.DecodeFault.{DecodeFault}
 use Rattle.stream_codec.specs.declared.decode.DecodeFault.TheVariants.{InputFault, OutFault, ReportFault, TooLong, Beyond, Ragged, Framing}
 use Rattle.stream_codec.proofs.ReportLemmas.{lines_of-append}
-use Rattle.stream_codec.proofs.Writes.{wrote_nothing, wrote_more, wrote_some, gave_front}
+use Rattle.ag_io.proofs.Writes.{wrote_nothing, wrote_more, wrote_some, gave_front}
 
 -- ---- changes of one more group
 -- the changes of a block by its group and its place there are those by its number
@@ -82,7 +84,7 @@ nothing_corrected : (G : Form) (z : List ℕ) → IsSound G → corrected G z 0 
 nothing_corrected G z sound = nil_from_length (corrected G z 0) (length-corrected_at G z 0 sound (omega arith) ∙ omega arith)
 
 -- ---- no group, and one more
-pub dealt_none : (G : Form) (ot rt : Bool) (out report : SinkView) (s : OutState) (counts : DecodeCounts) → IsSound G → s.released ≡ [] → s.held ≡ None → counts ≡ record { groups = 0; bytes = 0; changes = 0 } → Dealt G ot out out rt report report s counts []
+pub dealt_none : (G : Form) (ot rt : Bool) (out report : SinkView) (s : OutState) (counts : DecodeCounts) → IsSound G → s.released ≡ [] → s.held ≡ None → counts ≡ record { groups = 0; bytes = 0; changes = 0 } → Dealt G (sinks_of ot out out rt report report) s counts []
 dealt_none G ot rt out report s counts sound released held zero =
     let nothing = nothing_corrected G [] sound in
     let none : bits_held s.held ≡ [] = ap bits_held held in
@@ -105,7 +107,7 @@ dealt_none G ot rt out report s counts sound released held zero =
     }
 
 -- the bytes that the held group completes
-pub next_bytes : (G : Form) (ot rt : Bool) (out out1 report report1 : SinkView) (s : OutState) (counts : DecodeCounts) (z more : List ℕ) → IsSound G → Dealt G ot out out1 rt report report1 s counts z →
+pub next_bytes : (G : Form) (ot rt : Bool) (out out1 report report1 : SinkView) (s : OutState) (counts : DecodeCounts) (z more : List ℕ) → IsSound G → Dealt G (sinks_of ot out out1 rt report report1) s counts z →
     symbols_of 8 (corrected G (z ++ more) counts.groups) ≡ symbols_of 8 (corrected G z (counts.groups - 1)) ++ symbols_of 8 (s.released ++ bits_held s.held)
 next_bytes G ot rt out out1 report report1 s counts z more sound d =
     let n = counts.groups in
@@ -123,10 +125,10 @@ abbrev held_next : Form → OutState → List (List ℕ) → OutState
 held_next G s ys = out_with s (bytes_left (s.released ++ bits_held s.held)) (Some (message_bits G (map (kept G) ys)))
 
 dealt_next : (G : Form) (ot rt : Bool) (out out1 out2 report report1 report2 : SinkView) (s : OutState) (counts : DecodeCounts) (z group : List ℕ) →
-    IsSound G → Dealt G ot out out1 rt report report1 s counts z → length group ≡ group_bytes G → All (IsNear G) (group_blocks G group) →
+    IsSound G → Dealt G (sinks_of ot out out1 rt report report1) s counts z → length group ≡ group_bytes G → All (IsNear G) (group_blocks G group) →
     Wrote ot out1 out2 (symbols_of 8 (s.released ++ bits_held s.held)) →
     Wrote rt report1 report2 (lines_of (changes_from G.n counts.groups 0 (group_blocks G group) (map (kept G) (group_blocks G group)))) →
-    Dealt G ot out out2 rt report report2 (held_next G s (group_blocks G group)) (counted counts (length (symbols_of 8 (s.released ++ bits_held s.held))) (length (changes_from G.n counts.groups 0 (group_blocks G group) (map (kept G) (group_blocks G group))))) (z ++ group)
+    Dealt G (sinks_of ot out out2 rt report report2) (held_next G s (group_blocks G group)) (counted counts (length (symbols_of 8 (s.released ++ bits_held s.held))) (length (changes_from G.n counts.groups 0 (group_blocks G group) (map (kept G) (group_blocks G group))))) (z ++ group)
 dealt_next G ot rt out out1 out2 report report1 report2 s counts z group sound d long near wrote told =
     let n = counts.groups in
     let us = group_blocks G group in
@@ -152,11 +154,11 @@ dealt_next G ot rt out out1 out2 report report1 report2 s counts z group sound d
       changes = ap (λ b. b + length (changes_from G.n n 0 us (map (kept G) us))) d.changes ∙ sym (ap length changes ∙ length-append (changes_to G z n) (changes_from G.n n 0 us (map (kept G) us)));
     }
 
-pub dealt_more : (F : Form) (depth : ℕ) (ot rt : Bool) (out out1 out2 report report1 report2 : SinkView) (s s2 : OutState) (counts counts2 : DecodeCounts) (z group text : List ℕ) (ys : List (List ℕ)) →
-    IsSound (at_depth depth F) → Dealt (at_depth depth F) ot out out1 rt report report1 s counts z → length group ≡ group_bytes (at_depth depth F) → ys ≡ group_blocks (at_depth depth F) group → GroupDealt F ot out1 out2 rt report1 report2 s s2 counts counts2 ys → text ≡ z ++ group →
-    Dealt (at_depth depth F) ot out out2 rt report report2 s2 counts2 text
-dealt_more F depth ot rt out out1 out2 report report1 report2 s s2 counts counts2 z group text ys sound d long is g text_is =
-    let G = at_depth depth F in
+pub dealt_more : (F : Form) (layout : Layout) (ot rt : Bool) (out out1 out2 report report1 report2 : SinkView) (s s2 : OutState) (counts counts2 : DecodeCounts) (z group text : List ℕ) (ys : List (List ℕ)) →
+    IsSound (in_groups layout F) → Dealt (in_groups layout F) (sinks_of ot out out1 rt report report1) s counts z → length group ≡ group_bytes (in_groups layout F) → ys ≡ group_blocks (in_groups layout F) group → GroupDealt F (sinks_of ot out1 out2 rt report1 report2) s s2 counts counts2 ys → text ≡ z ++ group →
+    Dealt (in_groups layout F) (sinks_of ot out out2 rt report report2) s2 counts2 text
+dealt_more F layout ot rt out out1 out2 report report1 report2 s s2 counts counts2 z group text ys sound d long is g text_is =
+    let G = in_groups layout F in
     let more = symbols_of 8 (s.released ++ bits_held s.held) in
     let near = subst (λ us. All (IsNear G) us) is g.near in
     let told = subst (λ us. Wrote rt report1 report2 (lines_of (changes_from G.n counts.groups 0 us (map (kept G) us)))) is g.told in
@@ -164,16 +166,16 @@ dealt_more F depth ot rt out out1 out2 report report1 report2 s s2 counts counts
     let holds : s2 ≡ held_next G s (group_blocks G group) = g.holds ∙ ap (held_next G s) is in
     let counts_are : counts2 ≡ counted counts (length more) (length (changes_from G.n counts.groups 0 (group_blocks G group) (map (kept G) (group_blocks G group)))) =
     g.counts_are ∙ ap (λ us. counted counts (length more) (length (changes_from G.n counts.groups 0 us (map (kept G) us)))) is in
-    subst (Dealt G ot out out2 rt report report2 s2 counts2) (sym text_is)
-    (subst (λ (v : OutState). Dealt G ot out out2 rt report report2 v counts2 (z ++ group)) (sym holds)
-    (subst (λ (v : DecodeCounts). Dealt G ot out out2 rt report report2 (held_next G s (group_blocks G group)) v (z ++ group)) (sym counts_are) next))
+    subst (Dealt G (sinks_of ot out out2 rt report report2) s2 counts2) (sym text_is)
+    (subst (λ (v : OutState). Dealt G (sinks_of ot out out2 rt report report2) v counts2 (z ++ group)) (sym holds)
+    (subst (λ (v : DecodeCounts). Dealt G (sinks_of ot out out2 rt report report2) (held_next G s (group_blocks G group)) v (z ++ group)) (sym counts_are) next))
 
-pub dealt_as : {G : Form} {ot rt : Bool} {out out1 report report1 : SinkView} {s : OutState} {counts : DecodeCounts} {z : List ℕ} (text : List ℕ) → Dealt G ot out out1 rt report report1 s counts z → text ≡ z → Dealt G ot out out1 rt report report1 s counts text
-dealt_as {G} {ot} {rt} {out} {out1} {report} {report1} {s} {counts} {z} text d e = subst (Dealt G ot out out1 rt report report1 s counts) (sym e) d
+pub dealt_as : {G : Form} {ot rt : Bool} {out out1 report report1 : SinkView} {s : OutState} {counts : DecodeCounts} {z : List ℕ} (text : List ℕ) → Dealt G (sinks_of ot out out1 rt report report1) s counts z → text ≡ z → Dealt G (sinks_of ot out out1 rt report report1) s counts text
+dealt_as {G} {ot} {rt} {out} {out1} {report} {report1} {s} {counts} {z} text d e = subst (Dealt G (sinks_of ot out out1 rt report report1) s counts) (sym e) d
 
 -- ---- what the first groups say of a text that goes on
 -- the bytes that the held group completes stand in what is sure of the text
-pub sure_more : (G : Form) (ot rt : Bool) (out out1 report report1 : SinkView) (s : OutState) (counts : DecodeCounts) (z more : List ℕ) → IsSound G → Dealt G ot out out1 rt report report1 s counts z →
+pub sure_more : (G : Form) (ot rt : Bool) (out out1 report report1 : SinkView) (s : OutState) (counts : DecodeCounts) (z more : List ℕ) → IsSound G → Dealt G (sinks_of ot out out1 rt report report1) s counts z →
     (rest : List ℕ) × (sure_bytes G (z ++ more) ≡ (symbols_of 8 (corrected G z (counts.groups - 1)) ++ symbols_of 8 (s.released ++ bits_held s.held)) ++ rest)
 sure_more G ot rt out out1 report report1 s counts z more sound d =
     let text = z ++ more in
@@ -194,9 +196,9 @@ told_more G z more n sound whole near =
 
 -- ---- a fault at a group
 lost_group : (G : Form) (ot rt : Bool) (out out1 out2 report report1 report2 : SinkView) (s : OutState) (counts : DecodeCounts) (z group more : List ℕ) (word : ℕ) →
-    IsSound G → Dealt G ot out out1 rt report report1 s counts z → length group ≡ group_bytes G → FirstLost G (group_blocks G group) word →
+    IsSound G → Dealt G (sinks_of ot out out1 rt report report1) s counts z → length group ≡ group_bytes G → FirstLost G (group_blocks G group) word →
     Wrote ot out1 out2 (symbols_of 8 (s.released ++ bits_held s.held)) → Wrote rt report1 report2 [] →
-    TextRefused G ot out out2 rt report report2 (z ++ (group ++ more)) (ReadBeyond counts.groups word)
+    TextRefused G (sinks_of ot out out2 rt report report2) (z ++ (group ++ more)) (ReadBeyond counts.groups word)
 unfolding output changes AllNear
 lost_group G ot rt out out1 out2 report report1 report2 s counts z group more word sound d long lost wrote told =
     let text = z ++ (group ++ more) in
@@ -212,18 +214,18 @@ lost_group G ot rt out out1 out2 report report1 report2 s counts z group more wo
       told = wrote_more (lines G text) d.told told (ap (λ r. lines_of (changes_to G text (told_groups G text r))) reads ∙ ap lines_of same ∙ sym (append-nil (lines_of (changes_to G z n))));
     }
 
-group_fault_at : (F : Form) (depth : ℕ) (ot rt : Bool) (out out1 out2 report report1 report2 : SinkView) (s : OutState) (counts : DecodeCounts) (z group more : List ℕ) (ys : List (List ℕ)) (fault : DecodeFault) →
-    IsSound (at_depth depth F) → Dealt (at_depth depth F) ot out out1 rt report report1 s counts z → length group ≡ group_bytes (at_depth depth F) → ys ≡ group_blocks (at_depth depth F) group → GroupFault F ot out1 out2 rt report1 report2 s counts ys fault →
-    TextFault (at_depth depth F) ot out out2 rt report report2 (z ++ (group ++ more)) fault
-group_fault_at F depth ot rt out out1 out2 report report1 report2 s counts z group more ys OutFault sound d long is (part, told) =
-    let G = at_depth depth F in
+group_fault_at : (F : Form) (layout : Layout) (ot rt : Bool) (out out1 out2 report report1 report2 : SinkView) (s : OutState) (counts : DecodeCounts) (z group more : List ℕ) (ys : List (List ℕ)) (fault : DecodeFault) →
+    IsSound (in_groups layout F) → Dealt (in_groups layout F) (sinks_of ot out out1 rt report report1) s counts z → length group ≡ group_bytes (in_groups layout F) → ys ≡ group_blocks (in_groups layout F) group → GroupFault F (sinks_of ot out1 out2 rt report1 report2) s counts ys fault →
+    TextFault (in_groups layout F) (sinks_of ot out out2 rt report report2) (z ++ (group ++ more)) fault
+group_fault_at F layout ot rt out out1 out2 report report1 report2 s counts z group more ys OutFault sound d long is (part, told) =
+    let G = in_groups layout F in
     let text = z ++ (group ++ more) in
     let (rest, e) = sure_more G ot rt out out1 report report1 s counts z (group ++ more) sound d in
     let (lines_rest, f) = told_more G z (group ++ more) counts.groups sound d.whole d.near in
     let front = wrote_more (lines_of (changes_to G z counts.groups)) d.told told (sym (append-nil (lines_of (changes_to G z counts.groups)))) in
-    (wrote_some rest (sure_bytes G text) d.wrote part e, record { gives = gave_front lines_rest (report_of G text) front f; counted = front.counted; sure = front.sure })
-group_fault_at F depth ot rt out out1 out2 report report1 report2 s counts z group more ys ReportFault sound d long is (near, wrote, part) =
-    let G = at_depth depth F in
+    (wrote_some rest (sure_bytes G text) d.wrote part e, record { gives = gave_front lines_rest (report_of G text) front f; counted = omega (arith, front.faults); sure = front.sure })
+group_fault_at F layout ot rt out out1 out2 report report1 report2 s counts z group more ys ReportFault sound d long is (near, wrote, part) =
+    let G = in_groups layout F in
     let text = z ++ (group ++ more) in
     let n = counts.groups in
     let (rest, e) = sure_more G ot rt out out1 report report1 s counts z (group ++ more) sound d in
@@ -236,24 +238,24 @@ group_fault_at F depth ot rt out out1 out2 report report1 report2 s counts z gro
     let told = subst (λ l. WroteSome rt report1 report2 (lines_of (changes_from G.n n 0 l (map (kept G) l)))) is part in
     let split : lines_of (changes_to G (z ++ group) (n + 1)) ≡ lines_of (changes_to G z n) ++ lines_of (changes_from G.n n 0 us (map (kept G) us)) =
     ap lines_of (changes_to_more G z group n sound d.whole long) ∙ lines_of-append (changes_to G z n) (changes_from G.n n 0 us (map (kept G) us)) in (
-      record { gives = gave_front rest (sure_bytes G text) front e; counted = front.counted; sure = front.sure },
+      record { gives = gave_front rest (sure_bytes G text) front e; counted = omega (arith, front.faults); sure = front.sure },
       wrote_some lines_rest (report_of G text) d.told told (ap (report_of G) (sym (append_assoc z group more)) ∙ f ∙ ap (λ l. l ++ lines_rest) split),
     )
-group_fault_at F depth ot rt out out1 out2 report report1 report2 s counts z group more ys (Beyond g word) sound d long is (at, lost, wrote, told) =
-    let G = at_depth depth F in
+group_fault_at F layout ot rt out out1 out2 report report1 report2 s counts z group more ys (Beyond g word) sound d long is (at, lost, wrote, told) =
+    let G = in_groups layout F in
     let here : FirstLost G (group_blocks G group) word = (let moved = subst (λ l. FirstLost F l word) is lost in record { below = moved.below; lost = moved.lost; before = moved.before }) in
     let refused = lost_group G ot rt out out1 out2 report report1 report2 s counts z group more word sound d long here wrote told in
-    subst (λ n. TextRefused G ot out out2 rt report report2 (z ++ (group ++ more)) (ReadBeyond n word)) (sym at) refused
-group_fault_at F depth ot rt out out1 out2 report report1 report2 s counts z group more ys InputFault sound d long is h = absurd h
-group_fault_at F depth ot rt out out1 out2 report report1 report2 s counts z group more ys (TooLong taken) sound d long is h = absurd h
-group_fault_at F depth ot rt out out1 out2 report report1 report2 s counts z group more ys (Ragged extra) sound d long is h = absurd h
-group_fault_at F depth ot rt out out1 out2 report report1 report2 s counts z group more ys Framing sound d long is h = absurd h
+    subst (λ n. TextRefused G (sinks_of ot out out2 rt report report2) (z ++ (group ++ more)) (ReadBeyond n word)) (sym at) refused
+group_fault_at F layout ot rt out out1 out2 report report1 report2 s counts z group more ys InputFault sound d long is h = absurd h
+group_fault_at F layout ot rt out out1 out2 report report1 report2 s counts z group more ys (TooLong taken) sound d long is h = absurd h
+group_fault_at F layout ot rt out out1 out2 report report1 report2 s counts z group more ys (Ragged extra) sound d long is h = absurd h
+group_fault_at F layout ot rt out out1 out2 report report1 report2 s counts z group more ys Framing sound d long is h = absurd h
 
-pub group_fault : (F : Form) (depth : ℕ) (ot rt : Bool) (out out1 out2 report report1 report2 : SinkView) (s : OutState) (counts : DecodeCounts) (z group more text : List ℕ) (ys : List (List ℕ)) (fault : DecodeFault) →
-    IsSound (at_depth depth F) → Dealt (at_depth depth F) ot out out1 rt report report1 s counts z → length group ≡ group_bytes (at_depth depth F) → ys ≡ group_blocks (at_depth depth F) group → GroupFault F ot out1 out2 rt report1 report2 s counts ys fault → text ≡ z ++ (group ++ more) →
-    TextFault (at_depth depth F) ot out out2 rt report report2 text fault
-group_fault F depth ot rt out out1 out2 report report1 report2 s counts z group more text ys fault sound d long is h text_is =
-    subst (λ l. TextFault (at_depth depth F) ot out out2 rt report report2 l fault) (sym text_is) (group_fault_at F depth ot rt out out1 out2 report report1 report2 s counts z group more ys fault sound d long is h)
+pub group_fault : (F : Form) (layout : Layout) (ot rt : Bool) (out out1 out2 report report1 report2 : SinkView) (s : OutState) (counts : DecodeCounts) (z group more text : List ℕ) (ys : List (List ℕ)) (fault : DecodeFault) →
+    IsSound (in_groups layout F) → Dealt (in_groups layout F) (sinks_of ot out out1 rt report report1) s counts z → length group ≡ group_bytes (in_groups layout F) → ys ≡ group_blocks (in_groups layout F) group → GroupFault F (sinks_of ot out1 out2 rt report1 report2) s counts ys fault → text ≡ z ++ (group ++ more) →
+    TextFault (in_groups layout F) (sinks_of ot out out2 rt report report2) text fault
+group_fault F layout ot rt out out1 out2 report report1 report2 s counts z group more text ys fault sound d long is h text_is =
+    subst (λ l. TextFault (in_groups layout F) (sinks_of ot out out2 rt report report2) l fault) (sym text_is) (group_fault_at F layout ot rt out out1 out2 report report1 report2 s counts z group more ys fault sound d long is h)
 
 -- the text, cut at the group
 pub cut_text : (z w a b c more : List ℕ) → w ≡ a ++ (b ++ c) → z ++ (w ++ more) ≡ (z ++ a) ++ (b ++ (c ++ more))

@@ -9,9 +9,11 @@ use Rattle.stored_form.specs.Form.{IsSound}
 use Rattle.stored_form.specs.Frame.{group_bytes}
 use Rattle.stored_form.specs.Reading.{Reading, group_count, corrected, reading, AllNear}
 use Rattle.stored_form.specs.Reading.{Beyond as ReadBeyond, Ragged as ReadRagged, Framing as ReadFraming}
+use Rattle.stream_codec.specs.Sinks.{sinks_of}
 use Rattle.stream_codec.specs.Dealing.{Dealt, TextRefused, TextFault, TextEnded}
-use Rattle.stream_codec.specs.Decoding.{Decode, answer_by, groups_within, Refuses, ToldAs, FaultAs, DecodedAs, IsComplete}
+use Rattle.stream_codec.specs.Decoding.{Decode, sinks_in, answer_by, groups_within, Refuses, ToldAs, FaultAs, DecodedAs, IsComplete}
 use Rattle.ag_frame.specs.declared.frame.Layout.{Layout}
+use Rattle.ag_frame.specs.Layouts.{bytes_in_group}
 use Rattle.ag_io.specs.Views.{SinkView, SourceView}
 use Rattle.stream_codec.specs.Slots.{SlotState}
 use Rattle.stream_codec.specs.Windows.{TailSays, WindowFilled}
@@ -32,14 +34,14 @@ pub record Taken (d : Decode) (z p : List ℕ) : Type 0 where
   pub source_counted : d.source.faults ≤ d.source_after.faults
 
 -- the bytes after the whole groups are no more than a group
-tail_short : (l : Layout) (tells : Bool) (before after : SourceView) (limit groups total : ℕ) (p : List ℕ) (tail : Tail) → TailSays l tells before after limit groups total p tail → length p ≤ l.n * l.depth
+tail_short : (l : Layout) (tells : Bool) (before after : SourceView) (limit groups total : ℕ) (p : List ℕ) (tail : Tail) → TailSays l tells before after limit groups total p tail → length p ≤ bytes_in_group l
 tail_short l tells before after limit groups total p More h = omega (arith, ap length h.0)
 tail_short l tells before after limit groups total p (End got) h = omega (arith, h.0, h.1)
 tail_short l tells before after limit groups total p Fault h = omega (arith, h.0)
 tail_short l tells before after limit groups total p TailTooLong h = h.0
 
 -- a window after the text z
-pub window_taken : (l : Layout) (d : Decode) (middle : SourceView) (slots : List SlotState) (filling : Filling) (taken : ℕ) (z w p : List ℕ) → l.n * l.depth ≡ group_bytes d.form → (IsTrue d.source_tells → d.source.left ≡ z ++ middle.left) → taken ≡ length z → d.source.faults ≤ middle.faults → middle.faults ≤ d.source_after.faults →
+pub window_taken : (l : Layout) (d : Decode) (middle : SourceView) (slots : List SlotState) (filling : Filling) (taken : ℕ) (z w p : List ℕ) → bytes_in_group l ≡ group_bytes d.form → (IsTrue d.source_tells → d.source.left ≡ z ++ middle.left) → taken ≡ length z → d.source.faults ≤ middle.faults → middle.faults ≤ d.source_after.faults →
     WindowFilled l d.source_tells middle d.source_after d.limit taken slots filling w p → Taken d (z ++ w) p
 window_taken l d middle slots filling taken z w p size left taken_is first then f = record {
   left = λ t. left t ∙ ap (λ r. z ++ r) (f.left t) ∙ sym (append_assoc z w (p ++ d.source_after.left));
@@ -60,27 +62,27 @@ taken_is : (d : Decode) (z p : List ℕ) → Taken d z p → IsTrue d.source_tel
 taken_is d z p k t = k.left t ∙ sym (append_assoc z p d.source_after.left)
 
 -- ---- a text that is refused
-refuses : (d : Decode) (z p : List ℕ) (text : List ℕ) (r : Reading) → IsTrue d.source_tells → d.source.left ≡ text → TextRefused d.form d.out_tells d.out d.out_after d.report_tells d.report d.report_after text r → Refuses d r
+refuses : (d : Decode) (z p : List ℕ) (text : List ℕ) (r : Reading) → IsTrue d.source_tells → d.source.left ≡ text → TextRefused d.form (sinks_in d) text r → Refuses d r
 refuses d z p text r t e h =
-    let here = subst (λ l. TextRefused d.form d.out_tells d.out d.out_after d.report_tells d.report d.report_after l r) (sym e) h in
+    let here = subst (λ l. TextRefused d.form (sinks_in d) l r) (sym e) h in
     record { reads = here.reads; out = here.wrote.gives; report = here.told.gives }
 
-refused : (d : Decode) (z p text : List ℕ) (r : Reading) (fault : DecodeFault) → Taken d z p → TextRefused d.form d.out_tells d.out d.out_after d.report_tells d.report d.report_after text r →
+refused : (d : Decode) (z p text : List ℕ) (r : Reading) (fault : DecodeFault) → Taken d z p → TextRefused d.form (sinks_in d) text r →
     (IsTrue d.source_tells → ToldAs d (Err fault)) → FaultAs d (Err fault) → DecodedAs d (Err fault)
 refused d z p text r fault k h told by = record {
   told = told;
   fault = by;
   most = taken_most d z p k;
   source_counted = k.source_counted;
-  out_counted = h.wrote.counted;
-  report_counted = h.told.counted;
+  out_counted = omega (arith, h.wrote.faults);
+  report_counted = omega (arith, h.told.faults);
   out_sure = h.wrote.sure;
   report_sure = h.told.sure;
 }
 
 -- a fault, where the text was `text` so far as it is told
-faulted : (d : Decode) (z p text : List ℕ) (fault : DecodeFault) → Taken d z p → (IsTrue d.source_tells → d.source.left ≡ text) → TextFault d.form d.out_tells d.out d.out_after d.report_tells d.report d.report_after text fault →
-    ((fault ≡ OutFault → TextFault d.form d.out_tells d.out d.out_after d.report_tells d.report d.report_after (z ++ p) OutFault) × (fault ≡ ReportFault → TextFault d.form d.out_tells d.out d.out_after d.report_tells d.report d.report_after (z ++ p) ReportFault)) → DecodedAs d (Err fault)
+faulted : (d : Decode) (z p text : List ℕ) (fault : DecodeFault) → Taken d z p → (IsTrue d.source_tells → d.source.left ≡ text) → TextFault d.form (sinks_in d) text fault →
+    ((fault ≡ OutFault → TextFault d.form (sinks_in d) (z ++ p) OutFault) × (fault ≡ ReportFault → TextFault d.form (sinks_in d) (z ++ p) ReportFault)) → DecodedAs d (Err fault)
 faulted d z p text (Beyond group word) k e h parts = refused d z p text (ReadBeyond group word) (Beyond group word) k h (λ t. refuses d z p text (ReadBeyond group word) t (e t) h) tt
 faulted d z p text (Ragged extra) k e h parts = refused d z p text (ReadRagged extra) (Ragged extra) k h (λ t. refuses d z p text (ReadRagged extra) t (e t) h) tt
 faulted d z p text Framing k e h parts = refused d z p text ReadFraming Framing k h (λ t. refuses d z p text ReadFraming t (e t) h) tt
@@ -112,15 +114,15 @@ faulted d z p text InputFault k e h parts = absurd h
 faulted d z p text (TooLong taken) k e h parts = absurd h
 
 -- ---- a fault at a group, whatever follows it
-pub decoded_fault : (d : Decode) (z w p : List ℕ) (fault : DecodeFault) → Taken d (z ++ w) p → ((more : List ℕ) → TextFault d.form d.out_tells d.out d.out_after d.report_tells d.report d.report_after (z ++ (w ++ more)) fault) → DecodedAs d (Err fault)
+pub decoded_fault : (d : Decode) (z w p : List ℕ) (fault : DecodeFault) → Taken d (z ++ w) p → ((more : List ℕ) → TextFault d.form (sinks_in d) (z ++ (w ++ more)) fault) → DecodedAs d (Err fault)
 decoded_fault d z w p fault k h =
     let rest = p ++ d.source_after.left in
-    let Says = λ (text : List ℕ) (f : DecodeFault). TextFault d.form d.out_tells d.out d.out_after d.report_tells d.report d.report_after text f in
+    let Says = λ (text : List ℕ) (f : DecodeFault). TextFault d.form (sinks_in d) text f in
     let here = subst (λ l. Says l fault) (sym (append_assoc z w p)) (h p) in
     faulted d (z ++ w) p (z ++ (w ++ rest)) fault k (λ t. k.left t ∙ append_assoc z w rest) (h rest) ((λ e. subst (Says ((z ++ w) ++ p)) e here), (λ e. subst (Says ((z ++ w) ++ p)) e here))
 
 -- ---- the end of the source
-pub decoded_end : (d : Decode) (z p : List ℕ) (answer : Result DecodeCounts DecodeFault) → Taken d z p → (IsTrue d.source_tells → d.source_after.left ≡ []) → TextEnded d.form d.out_tells d.out d.out_after d.report_tells d.report d.report_after (z ++ p) answer → DecodedAs d answer
+pub decoded_end : (d : Decode) (z p : List ℕ) (answer : Result DecodeCounts DecodeFault) → Taken d z p → (IsTrue d.source_tells → d.source_after.left ≡ []) → TextEnded d.form (sinks_in d) (z ++ p) answer → DecodedAs d answer
 decoded_end d z p (Ok counts) k none (x, done) = record {
   told = λ t. let e : d.source.left ≡ z ++ p = taken_is d z p k t ∙ ap (λ l. (z ++ p) ++ l) (none t) ∙ append-nil (z ++ p) in (
     x,
@@ -135,17 +137,17 @@ decoded_end d z p (Ok counts) k none (x, done) = record {
   fault = tt;
   most = taken_most d z p k;
   source_counted = k.source_counted;
-  out_counted = done.wrote.counted;
-  report_counted = done.told.counted;
+  out_counted = omega (arith, done.wrote.faults);
+  report_counted = omega (arith, done.told.faults);
   out_sure = done.wrote.sure;
   report_sure = done.told.sure;
 }
 decoded_end d z p (Err fault) k none h =
-    let Says = λ (f : DecodeFault). TextFault d.form d.out_tells d.out d.out_after d.report_tells d.report d.report_after (z ++ p) f in
+    let Says = λ (f : DecodeFault). TextFault d.form (sinks_in d) (z ++ p) f in
     faulted d z p (z ++ p) fault k (λ t. taken_is d z p k t ∙ ap (λ l. (z ++ p) ++ l) (none t) ∙ append-nil (z ++ p)) h ((λ e. subst Says e h), (λ e. subst Says e h))
 
 -- ---- a read that failed
-pub decoded_input_fault : (d : Decode) (s : OutState) (counts : DecodeCounts) (z p : List ℕ) → IsSound d.form → Taken d z p → length p < group_bytes d.form → Rose d.source.faults d.source_after.faults → Dealt d.form d.out_tells d.out d.out_after d.report_tells d.report d.report_after s counts z → DecodedAs d (Err InputFault)
+pub decoded_input_fault : (d : Decode) (s : OutState) (counts : DecodeCounts) (z p : List ℕ) → IsSound d.form → Taken d z p → length p < group_bytes d.form → Rose d.source.faults d.source_after.faults → Dealt d.form (sinks_in d) s counts z → DecodedAs d (Err InputFault)
 decoded_input_fault d s counts z p sound k short rose dealt =
     let G = d.form in
     let n = counts.groups in
@@ -167,18 +169,18 @@ decoded_input_fault d s counts z p sound k short rose dealt =
       fault = rose;
       most = taken_most d z p k;
       source_counted = k.source_counted;
-      out_counted = dealt.wrote.counted;
-      report_counted = dealt.told.counted;
+      out_counted = omega (arith, dealt.wrote.faults);
+      report_counted = omega (arith, dealt.told.faults);
       out_sure = dealt.wrote.sure;
       report_sure = dealt.told.sure;
     }
 
 -- ---- more than the limit
-whole_near : (d : Decode) (ot rt : Bool) (out out1 report report1 : SinkView) (s : OutState) (counts : DecodeCounts) (z : List ℕ) → Dealt d.form ot out out1 rt report report1 s counts z → AllNear d.form z
+whole_near : (d : Decode) (ot rt : Bool) (out out1 report report1 : SinkView) (s : OutState) (counts : DecodeCounts) (z : List ℕ) → Dealt d.form (sinks_of ot out out1 rt report report1) s counts z → AllNear d.form z
 unfolding AllNear
 whole_near d ot rt out out1 report report1 s counts z dealt = dealt.near
 
-pub decoded_too_long : (d : Decode) (s : OutState) (counts : DecodeCounts) (z p : List ℕ) (taken : ℕ) → IsSound d.form → Taken d z p → length z ≤ d.limit → length p ≤ group_bytes d.form → d.limit < taken → taken ≡ length z + length p → Dealt d.form d.out_tells d.out d.out_after d.report_tells d.report d.report_after s counts z → DecodedAs d (Err (TooLong taken))
+pub decoded_too_long : (d : Decode) (s : OutState) (counts : DecodeCounts) (z p : List ℕ) (taken : ℕ) → IsSound d.form → Taken d z p → length z ≤ d.limit → length p ≤ group_bytes d.form → d.limit < taken → taken ≡ length z + length p → Dealt d.form (sinks_in d) s counts z → DecodedAs d (Err (TooLong taken))
 decoded_too_long d s counts z p taken sound k within short over sum dealt =
     let G = d.form in
     let n = counts.groups in
@@ -205,8 +207,8 @@ decoded_too_long d s counts z p taken sound k within short over sum dealt =
       fault = over;
       most = taken_most d z p k;
       source_counted = k.source_counted;
-      out_counted = dealt.wrote.counted;
-      report_counted = dealt.told.counted;
+      out_counted = omega (arith, dealt.wrote.faults);
+      report_counted = omega (arith, dealt.told.faults);
       out_sure = dealt.wrote.sure;
       report_sure = dealt.told.sure;
     }

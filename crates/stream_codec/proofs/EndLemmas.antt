@@ -14,16 +14,17 @@ use Rattle.stored_form.proofs.CoderLemmas.{symbols_of-append_rest}
 use Rattle.stored_form.proofs.ConverseLemmas.{reading_ragged_from}
 use Rattle.stored_form.proofs.DecoderLemmas.{IsHolding, reading_held_file, reading_held_no_one, reading_held_no_bytes, corrected-append, length-corrected_at}
 use Rattle.stored_form.proofs.StreamLemmas.{blocks-append, blocks_of_rest}
-use Rattle.stream_codec.specs.Dealing.{IsNear, WroteFront, Dealt, TextDone, TextRefused, TextFault}
+use Rattle.stream_codec.specs.Sinks.{sinks_of}
+use Rattle.stream_codec.specs.Dealing.{IsNear, Dealt, TextDone, TextRefused, TextFault}
 use Rattle.ag_io.specs.Views.{SinkView}
-use Rattle.stream_codec.specs.Giving.{Wrote, WroteSome}
+use Rattle.ag_io.specs.Puts.{Wrote, WroteSome, WroteFront}
 use Rattle.stream_codec.specs.Report.{changes_to, lines_of, lines, done, done_at, report_of, sure_bytes}
 use Rattle.stream_codec.specs.Writing.{bytes_left, EndsFile, EndsNoFile}
 use Rattle.stream_codec.specs.declared.decode.DecodeCounts.{DecodeCounts}
 use Rattle.stream_codec.specs.declared.decode.DecodeFault.TheVariants.{OutFault, ReportFault}
 use Rattle.stream_codec.proofs.DealtLemmas.{count_is, even_is, next_bytes, sure_more, told_more}
 use Rattle.stream_codec.proofs.ToldLemmas.{changes_to-append}
-use Rattle.stream_codec.proofs.Writes.{wrote_more, wrote_some, gave_front}
+use Rattle.ag_io.proofs.Writes.{wrote_more, wrote_some, gave_front}
 
 -- ---- bytes after the whole groups
 pub rest_count : (G : Form) (z p : List ℕ) (n : ℕ) → length z ≡ n * group_bytes G → length p < group_bytes G → group_count G (z ++ p) ≡ n
@@ -49,8 +50,8 @@ unfolding changes
 rest_lines G z p n sound whole told = ap (λ m. lines_of (changes_to G (z ++ p) m)) told ∙ ap lines_of (rest_changes G z p n sound whole)
 
 -- ---- Ragged
-pub ragged_end : (G : Form) (ot rt : Bool) (out out1 out2 report report1 : SinkView) (s : OutState) (counts : DecodeCounts) (z p : List ℕ) (extra : ℕ) → IsSound G → Dealt G ot out out1 rt report report1 s counts z → length p ≡ extra → extra < group_bytes G → ((0 < extra) ⊎ (counts.groups ≡ 0)) →
-    Wrote ot out1 out2 (symbols_of 8 (s.released ++ bits_held s.held)) → TextRefused G ot out out2 rt report report1 (z ++ p) (ReadRagged extra)
+pub ragged_end : (G : Form) (ot rt : Bool) (out out1 out2 report report1 : SinkView) (s : OutState) (counts : DecodeCounts) (z p : List ℕ) (extra : ℕ) → IsSound G → Dealt G (sinks_of ot out out1 rt report report1) s counts z → length p ≡ extra → extra < group_bytes G → ((0 < extra) ⊎ (counts.groups ≡ 0)) →
+    Wrote ot out1 out2 (symbols_of 8 (s.released ++ bits_held s.held)) → TextRefused G (sinks_of ot out out2 rt report report1) (z ++ p) (ReadRagged extra)
 unfolding output
 ragged_end G ot rt out out1 out2 report report1 s counts z p extra sound d long short cause wrote =
     let n = counts.groups in
@@ -72,19 +73,19 @@ ragged_end G ot rt out out1 out2 report report1 s counts z p extra sound d long 
     z_or_more m = grind arith
 
 -- ---- a write of the file that failed
-front_told : (G : Form) (ot rt : Bool) (out out1 report report1 : SinkView) (s : OutState) (counts : DecodeCounts) (z p : List ℕ) → IsSound G → Dealt G ot out out1 rt report report1 s counts z → WroteFront rt report report1 (report_of G (z ++ p))
+front_told : (G : Form) (ot rt : Bool) (out out1 report report1 : SinkView) (s : OutState) (counts : DecodeCounts) (z p : List ℕ) → IsSound G → Dealt G (sinks_of ot out out1 rt report report1) s counts z → WroteFront rt report report1 (report_of G (z ++ p))
 front_told G ot rt out out1 report report1 s counts z p sound d =
     let (rest, e) = told_more G z p counts.groups sound d.whole d.near in
-    record { gives = gave_front rest (report_of G (z ++ p)) d.told e; counted = d.told.counted; sure = d.told.sure }
+    record { gives = gave_front rest (report_of G (z ++ p)) d.told e; counted = omega (arith, d.told.faults); sure = d.told.sure }
 
-pub ragged_fault : (G : Form) (ot rt : Bool) (out out1 out2 report report1 : SinkView) (s : OutState) (counts : DecodeCounts) (z p : List ℕ) → IsSound G → Dealt G ot out out1 rt report report1 s counts z →
-    WroteSome ot out1 out2 (symbols_of 8 (s.released ++ bits_held s.held)) → TextFault G ot out out2 rt report report1 (z ++ p) OutFault
+pub ragged_fault : (G : Form) (ot rt : Bool) (out out1 out2 report report1 : SinkView) (s : OutState) (counts : DecodeCounts) (z p : List ℕ) → IsSound G → Dealt G (sinks_of ot out out1 rt report report1) s counts z →
+    WroteSome ot out1 out2 (symbols_of 8 (s.released ++ bits_held s.held)) → TextFault G (sinks_of ot out out2 rt report report1) (z ++ p) OutFault
 ragged_fault G ot rt out out1 out2 report report1 s counts z p sound d part =
     let (rest, e) = sure_more G ot rt out out1 report report1 s counts z p sound d in
     (wrote_some rest (sure_bytes G (z ++ p)) d.wrote part e, front_told G ot rt out out1 report report1 s counts z p sound d)
 
 -- ---- the held group
-holding : (G : Form) (ot rt : Bool) (out out1 report report1 : SinkView) (s : OutState) (counts : DecodeCounts) (z : List ℕ) → IsSound G → Dealt G ot out out1 rt report report1 s counts z → 0 < counts.groups → IsHolding G z (corrected G z (counts.groups - 1)) (bits_held s.held)
+holding : (G : Form) (ot rt : Bool) (out out1 report report1 : SinkView) (s : OutState) (counts : DecodeCounts) (z : List ℕ) → IsSound G → Dealt G (sinks_of ot out out1 rt report report1) s counts z → 0 < counts.groups → IsHolding G z (corrected G z (counts.groups - 1)) (bits_held s.held)
 unfolding AllNear
 holding G ot rt out out1 report report1 s counts z sound d some =
     let n = counts.groups in
@@ -125,8 +126,8 @@ front_bytes b held front found =
     )
 
 -- ---- Framing
-pub framing_end : (G : Form) (ot rt : Bool) (out out1 out2 report report1 : SinkView) (s : OutState) (counts : DecodeCounts) (z : List ℕ) → IsSound G → Dealt G ot out out1 rt report report1 s counts z → 0 < counts.groups → EndsNoFile s →
-    Wrote ot out1 out2 [] → TextRefused G ot out out2 rt report report1 z ReadFraming
+pub framing_end : (G : Form) (ot rt : Bool) (out out1 out2 report report1 : SinkView) (s : OutState) (counts : DecodeCounts) (z : List ℕ) → IsSound G → Dealt G (sinks_of ot out out1 rt report report1) s counts z → 0 < counts.groups → EndsNoFile s →
+    Wrote ot out1 out2 [] → TextRefused G (sinks_of ot out out2 rt report report1) z ReadFraming
 unfolding output changes
 framing_end G ot rt out out1 out2 report report1 s counts z sound d some none wrote =
     let n = counts.groups in
@@ -154,7 +155,7 @@ pub record FileEnd (G : Form) (s : OutState) (counts : DecodeCounts) (z x : List
   pub rest : List ℕ
   pub sure : sure_bytes G z ≡ x ++ rest
 
-pub file_end : (G : Form) (ot rt : Bool) (out out1 report report1 : SinkView) (s : OutState) (counts : DecodeCounts) (z : List ℕ) (front : List Bool) → IsSound G → Dealt G ot out out1 rt report report1 s counts z → 0 < counts.groups → EndsFile s front → (x : List ℕ) × FileEnd G s counts z x front
+pub file_end : (G : Form) (ot rt : Bool) (out out1 report report1 : SinkView) (s : OutState) (counts : DecodeCounts) (z : List ℕ) (front : List Bool) → IsSound G → Dealt G (sinks_of ot out out1 rt report report1) s counts z → 0 < counts.groups → EndsFile s front → (x : List ℕ) × FileEnd G s counts z x front
 unfolding changes
 file_end G ot rt out out1 report report1 s counts z front sound d some ends =
     let n = counts.groups in
@@ -178,8 +179,8 @@ file_end G ot rt out out1 report report1 s counts z front sound d some ends =
       },
     )
 
-pub file_fault : (G : Form) (ot rt : Bool) (out out1 out2 report report1 : SinkView) (s : OutState) (counts : DecodeCounts) (z : List ℕ) (front : List Bool) → IsSound G → Dealt G ot out out1 rt report report1 s counts z → 0 < counts.groups → EndsFile s front →
-    WroteSome ot out1 out2 (symbols_of 8 (s.released ++ front)) → TextFault G ot out out2 rt report report1 z OutFault
+pub file_fault : (G : Form) (ot rt : Bool) (out out1 out2 report report1 : SinkView) (s : OutState) (counts : DecodeCounts) (z : List ℕ) (front : List Bool) → IsSound G → Dealt G (sinks_of ot out out1 rt report report1) s counts z → 0 < counts.groups → EndsFile s front →
+    WroteSome ot out1 out2 (symbols_of 8 (s.released ++ front)) → TextFault G (sinks_of ot out out2 rt report report1) z OutFault
 file_fault G ot rt out out1 out2 report report1 s counts z front sound d some ends part =
     let (x, end) = file_end G ot rt out out1 report report1 s counts z front sound d some ends in
     let told = front_told G ot rt out out1 report report1 s counts z [] sound d in (
@@ -200,9 +201,9 @@ counts_record g b c = record { groups = g; bytes = b; changes = c }
 counts_equal_to : (g g2 b b2 c c2 : ℕ) → g ≡ g2 → b ≡ b2 → c ≡ c2 → counts_record g b c ≡ counts_record g2 b2 c2
 counts_equal_to g g2 b b2 c c2 e f h = ap₂ (λ x y. counts_record x y c) e f ∙ ap (counts_record g2 b2) h
 
-pub file_done : (G : Form) (ot rt : Bool) (out out1 out2 report report1 report2 : SinkView) (s : OutState) (counts : DecodeCounts) (z : List ℕ) (front : List Bool) (last bytes : ℕ) → IsSound G → Dealt G ot out out1 rt report report1 s counts z → 0 < counts.groups → EndsFile s front →
+pub file_done : (G : Form) (ot rt : Bool) (out out1 out2 report report1 report2 : SinkView) (s : OutState) (counts : DecodeCounts) (z : List ℕ) (front : List Bool) (last bytes : ℕ) → IsSound G → Dealt G (sinks_of ot out out1 rt report report1) s counts z → 0 < counts.groups → EndsFile s front →
     Wrote ot out1 out2 (symbols_of 8 (s.released ++ front)) → last ≡ length (symbols_of 8 (s.released ++ front)) → bytes ≡ counts.bytes + last → Wrote rt report1 report2 (done_line_of bytes counts.groups counts.changes) →
-    (x : List ℕ) × TextDone G ot out out2 rt report report2 z x (record { groups = counts.groups; bytes = bytes; changes = counts.changes })
+    (x : List ℕ) × TextDone G (sinks_of ot out out2 rt report report2) z x (record { groups = counts.groups; bytes = bytes; changes = counts.changes })
 file_done G ot rt out out1 out2 report report1 report2 s counts z front last bytes sound d some ends wrote last_is sum told =
     let (x, end) = file_end G ot rt out out1 report report1 s counts z front sound d some ends in
     let b = symbols_of 8 (corrected G z (counts.groups - 1)) in
@@ -217,9 +218,9 @@ file_done G ot rt out out1 out2 report report1 report2 s counts z front last byt
       },
     )
 
-pub done_fault : (G : Form) (ot rt : Bool) (out out1 out2 report report1 report2 : SinkView) (s : OutState) (counts : DecodeCounts) (z : List ℕ) (front : List Bool) (last bytes : ℕ) → IsSound G → Dealt G ot out out1 rt report report1 s counts z → 0 < counts.groups → EndsFile s front →
+pub done_fault : (G : Form) (ot rt : Bool) (out out1 out2 report report1 report2 : SinkView) (s : OutState) (counts : DecodeCounts) (z : List ℕ) (front : List Bool) (last bytes : ℕ) → IsSound G → Dealt G (sinks_of ot out out1 rt report report1) s counts z → 0 < counts.groups → EndsFile s front →
     Wrote ot out1 out2 (symbols_of 8 (s.released ++ front)) → last ≡ length (symbols_of 8 (s.released ++ front)) → bytes ≡ counts.bytes + last → WroteSome rt report1 report2 (done_line_of bytes counts.groups counts.changes) →
-    TextFault G ot out out2 rt report report2 z ReportFault
+    TextFault G (sinks_of ot out out2 rt report report2) z ReportFault
 done_fault G ot rt out out1 out2 report report1 report2 s counts z front last bytes sound d some ends wrote last_is sum part =
     let (x, end) = file_end G ot rt out out1 report report1 s counts z front sound d some ends in
     let b = symbols_of 8 (corrected G z (counts.groups - 1)) in
@@ -227,6 +228,6 @@ done_fault G ot rt out out1 out2 report report1 report2 s counts z front last by
     let long : bytes ≡ length x = sum ∙ ap₂ (λ a b. a + b) d.bytes last_is ∙ sym (length-append b more) ∙ sym (ap length end.bytes) in
     let all = wrote_more x d.wrote wrote end.bytes in
     let line = done_is G s counts z x front bytes end long d.changes in (
-      record { gives = gave_front end.rest (sure_bytes G z) all end.sure; counted = all.counted; sure = all.sure },
+      record { gives = gave_front end.rest (sure_bytes G z) all end.sure; counted = omega (arith, all.faults); sure = all.sure },
       wrote_some [] (report_of G z) d.told part (ap₂ (λ a b. a ++ b) end.lines_are (sym line) ∙ sym (append-nil (lines_of (changes_to G z counts.groups) ++ done_line_of bytes counts.groups counts.changes))),
     )

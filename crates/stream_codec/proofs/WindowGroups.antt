@@ -4,30 +4,34 @@ use Rattle.std.specs.List.{drop-map, take-map}
 use Rattle.std.proofs.lemmas.List.{take_at, drop_at, drop-take, length-take, length-map}
 use Rattle.std.proofs.lemmas.List.Elements.{All-take, All-drop, All-map}
 use Rattle.ag_frame.specs.declared.frame.Layout.{Layout}
+use Rattle.ag_frame.specs.Layouts.{bytes_in_group}
 use Rattle.stored_form.specs.Bits.{whole_pieces}
 use Rattle.stored_form.specs.Form.{Form, IsSound}
 use Rattle.stored_form.specs.Frame.{group_bytes, group_blocks}
-use Rattle.stored_form.specs.Group.{gather}
+use Rattle.stored_form.specs.Group.{stored_blocks}
+use Rattle.stored_form.specs.Symbols.{stored_size}
 use Rattle.stored_form.specs.Reading.{blocks, kept}
 use Rattle.stored_form.proofs.Lists.{map-map}
 use Rattle.stored_form.proofs.ImageLemmas.{length-blocks, length-group_blocks}
 use Rattle.stored_form.proofs.StreamLemmas.{blocks-append, blocks_of_group}
-use Rattle.coded_block.specs.Codes.{BenchNumbers, at_depth, verdict_of}
-use Rattle.stream_codec.specs.Layouts.{Fits}
+use Rattle.coded_block.specs.Codes.{BenchNumbers, verdict_of}
+use Rattle.stream_codec.specs.Layouts.{Fits, in_groups, blocks_at}
 use Rattle.stream_codec.specs.Slots.{SlotState, CanDecode, IsSettled, decoded, blocks_of}
-use Rattle.stream_codec.specs.Windows.{WindowState, blocks_at}
+use Rattle.stream_codec.specs.Windows.{WindowState}
 use Rattle.ag_frame.specs.Queues.{OutState}
 use Rattle.ag_io.specs.Views.{SinkView, SourceView}
-use Rattle.stream_codec.specs.Dealing.{CountsFit, HoldsGroups, Dealt}
+use Rattle.stream_codec.specs.Sinks.{sinks_of}
+use Rattle.stream_codec.specs.Dealing.{CountsFit, HoldsGroups, Dealt, TextFault}
 use Rattle.stream_codec.specs.declared.decode.DecodeCounts.{DecodeCounts}
+use Rattle.stream_codec.specs.declared.decode.DecodeFault.{DecodeFault}
 use Rattle.stream_codec.proofs.DealtLemmas.{count_is, even_is}
 
-pub group_size : (l : Layout) (F : Form) → Fits l F → l.n * l.depth ≡ group_bytes (at_depth l.depth F)
-group_size l F fits = ap (λ n. n * l.depth) fits.n
+pub group_size : (l : Layout) (F : Form) → Fits l F → bytes_in_group l ≡ group_bytes (in_groups l F)
+group_size l F fits = ap₂ (λ b n. stored_size l.packed b (n * l.depth)) fits.bits fits.n
 
-pub blocks_is : (l : Layout) (F : Form) (z : List ℕ) → Fits l F → blocks_at l z ≡ blocks (at_depth l.depth F) z
+pub blocks_is : (l : Layout) (F : Form) (z : List ℕ) → Fits l F → blocks_at l z ≡ blocks (in_groups l F) z
 unfolding blocks group_blocks
-blocks_is l F z fits = ap (λ n. flat_map (gather n l.depth) (whole_pieces (n * l.depth) z)) fits.n
+blocks_is l F z fits = ap₂ (λ b n. flat_map (stored_blocks l.packed b n l.depth) (whole_pieces (stored_size l.packed b (n * l.depth)) z)) fits.bits fits.n
 
 -- group g of a text, cut out
 abbrev pub group_at : Form → List ℕ → ℕ → List ℕ
@@ -76,11 +80,11 @@ slots_inside depth groups g slots below =
     ∙ ap (take depth) (drop-take (g * depth) (groups * depth - g * depth) slots)
     ∙ take-take depth (groups * depth - g * depth) (drop (g * depth) slots) (omega arith)
 
-pub window_group : (F : Form) (w : WindowState) (groups g : ℕ) (z : List ℕ) → Fits w.layout F → IsSound (at_depth w.layout.depth F) → g < groups → HoldsGroups F w groups z →
-    WindowGroup F (at_depth w.layout.depth F) (take w.layout.depth (drop (g * w.layout.depth) w.slots)) z g
+pub window_group : (F : Form) (w : WindowState) (groups g : ℕ) (z : List ℕ) → Fits w.layout F → IsSound (in_groups w.layout F) → g < groups → HoldsGroups F w groups z →
+    WindowGroup F (in_groups w.layout F) (take w.layout.depth (drop (g * w.layout.depth) w.slots)) z g
 window_group F w groups g z fits sound below h =
     let depth = w.layout.depth in
-    let G = at_depth depth F in
+    let G = in_groups w.layout F in
     let size = group_bytes G in
     let inside = slots_inside depth groups g w.slots below in
     let whole : length z ≡ groups * size = h.whole ∙ ap (λ m. groups * m) (group_size w.layout F fits) in
@@ -102,13 +106,13 @@ window_group F w groups g z fits sound below h =
 
 -- what a window holds, by its layout
 record Held (F : Form) (l : Layout) (slots : List SlotState) (groups : ℕ) (z : List ℕ) : Type 0 where
-  whole : length z ≡ groups * (l.n * l.depth)
+  whole : length z ≡ groups * bytes_in_group l
   inside : groups * l.depth ≤ length slots
   blocks : blocks_of (take (groups * l.depth) slots) ≡ blocks_at l z
   settled : All (IsSettled F) (take (groups * l.depth) slots)
 
 -- a window that was filled with these groups and decoded holds them
-pub window_holds : (F : Form) (numbers : BenchNumbers) (l : Layout) (w w2 : WindowState) (groups : ℕ) (z : List ℕ) → w.layout ≡ l → w2.layout ≡ w.layout → length z ≡ groups * (l.n * l.depth) → groups * l.depth ≤ length w.slots →
+pub window_holds : (F : Form) (numbers : BenchNumbers) (l : Layout) (w w2 : WindowState) (groups : ℕ) (z : List ℕ) → w.layout ≡ l → w2.layout ≡ w.layout → length z ≡ groups * bytes_in_group l → groups * l.depth ≤ length w.slots →
     blocks_of (take (groups * l.depth) w.slots) ≡ blocks_at l z → take (groups * w.layout.depth) w2.slots ≡ map (decoded F) (take (groups * w.layout.depth) w.slots) → All (CanDecode F numbers) w2.slots → HoldsGroups F w2 groups z
 window_holds F numbers l w w2 groups z is same whole fits blocks found ready =
     let m = groups * l.depth in
@@ -130,13 +134,16 @@ window_holds F numbers l w w2 groups z is same whole fits blocks found ready =
 
 -- ---- window after window
 -- the text z was taken and dealt with
-pub record Decoding (F : Form) (depth : ℕ) (source_tells : Bool) (source source1 : SourceView) (ot : Bool) (out out1 : SinkView) (rt : Bool) (report report1 : SinkView) (s : OutState) (counts : DecodeCounts) (limit taken : ℕ) (z : List ℕ) : Type 0 where
-  pub dealt : Dealt (at_depth depth F) ot out out1 rt report report1 s counts z
+pub record Decoding (F : Form) (layout : Layout) (source_tells : Bool) (source source1 : SourceView) (ot : Bool) (out out1 : SinkView) (rt : Bool) (report report1 : SinkView) (s : OutState) (counts : DecodeCounts) (limit taken : ℕ) (z : List ℕ) : Type 0 where
+  pub dealt : Dealt (in_groups layout F) (sinks_of ot out out1 rt report report1) s counts z
   pub left : IsTrue source_tells → source.left ≡ z ++ source1.left
   pub taken_is : taken ≡ length z
   pub within : taken ≤ limit
   pub source_counted : source.faults ≤ source1.faults
   pub fit : CountsFit counts
 
-pub dealt_at : {ot rt : Bool} {out out1 report report1 : SinkView} {s : OutState} {counts : DecodeCounts} {z : List ℕ} (F : Form) (depth depth2 : ℕ) → Dealt (at_depth depth F) ot out out1 rt report report1 s counts z → depth ≡ depth2 → Dealt (at_depth depth2 F) ot out out1 rt report report1 s counts z
-dealt_at {ot} {rt} {out} {out1} {report} {report1} {s} {counts} {z} F depth depth2 d e = subst (λ n. Dealt (at_depth n F) ot out out1 rt report report1 s counts z) e d
+pub dealt_at : {ot rt : Bool} {out out1 report report1 : SinkView} {s : OutState} {counts : DecodeCounts} {z : List ℕ} (F : Form) (layout layout2 : Layout) → Dealt (in_groups layout F) (sinks_of ot out out1 rt report report1) s counts z → layout ≡ layout2 → Dealt (in_groups layout2 F) (sinks_of ot out out1 rt report report1) s counts z
+dealt_at {ot} {rt} {out} {out1} {report} {report1} {s} {counts} {z} F layout layout2 d e = subst (λ n. Dealt (in_groups n F) (sinks_of ot out out1 rt report report1) s counts z) e d
+
+pub fault_at : (ot rt : Bool) (out out1 report report1 : SinkView) (z w : List ℕ) (fault : DecodeFault) (F : Form) (layout layout2 : Layout) → ((more : List ℕ) → TextFault (in_groups layout F) (sinks_of ot out out1 rt report report1) (z ++ (w ++ more)) fault) → layout ≡ layout2 → (more : List ℕ) → TextFault (in_groups layout2 F) (sinks_of ot out out1 rt report report1) (z ++ (w ++ more)) fault
+fault_at ot rt out out1 report report1 z w fault F layout layout2 h e = subst (λ n. (more : List ℕ) → TextFault (in_groups n F) (sinks_of ot out out1 rt report report1) (z ++ (w ++ more)) fault) e h

@@ -1,32 +1,26 @@
 -- Slots that take the blocks of a group, and windows that are decoded.
-use Rattle.std.proofs.Common.{ℕ, ◌+◌, ◌*◌, ◌/◌, ◌<◌, ◌≤◌, ◌≡◌, List, [], ◌∷◌, ◌++◌, length, map, take, drop, set, get_or, flat_map, sym, ap, ap₂, ◌∙◌, subst, arith, length-take-le, length-drop, mul-div_cancel, mul-le-mul_right, mul_comm}
-use Rattle.std.specs.List.{range_with_len}
+use Rattle.std.proofs.Common.{ℕ, ◌+◌, ◌*◌, ◌/◌, ◌<◌, ◌≤◌, ◌≡◌, List, [], ◌∷◌, ◌++◌, length, map, take, drop, set, get_or, flat_map, All, sym, ap, ap₂, ◌∙◌, subst, arith, length-take-le, length-drop, mul-div_cancel, mul-le-mul_right, mul_comm}
 use Rattle.std.proofs.lemmas.List.{take_more, take_more_set, take_all, take-append-le, map-append, map-id, length-map}
-use Rattle.std.proofs.lemmas.List.Elements.{All-map}
 use Rattle.ag_frame.specs.declared.frame.Layout.{Layout}
-use Rattle.ag_frame.specs.Layouts.{IsLayout}
+use Rattle.ag_frame.specs.Layouts.{IsLayout, words_of_group}
 use Rattle.stored_form.specs.Bits.{whole_pieces}
 use Rattle.stored_form.specs.Form.{Form}
-use Rattle.stored_form.specs.Group.{gather, block_at}
 use Rattle.stored_form.proofs.Lists.{whole_pieces-flat_map, get_or-pieces}
-use Rattle.stored_form.proofs.GroupLemmas.{length-block_at}
+use Rattle.stored_form.proofs.GroupLemmas.{All-long-stored_blocks}
 use Rattle.coded_block.specs.Codes.{BenchNumbers}
 use Rattle.stream_codec.specs.Slots.{SlotState, CanDecode, loaded, blocks_of}
 
 -- ---- a group in slots
 -- the words of a group, cut apart
-block_is : (n depth c : ℕ) (words group : List ℕ) → 0 < n → words ≡ flat_map (λ w. w) (gather n depth group) → c < depth → length words ≡ n * depth → take n (drop (c * n) words) ≡ get_or (gather n depth group) c []
-block_is n depth c words group some e below long =
+block_is : (n depth c : ℕ) (words : List ℕ) (ys : List (List ℕ)) → 0 < n → All (λ y. length y ≡ n) ys → words ≡ flat_map (λ w. w) ys → c < depth → length words ≡ n * depth → take n (drop (c * n) words) ≡ get_or ys c []
+block_is n depth c words ys some each e below long =
     let count : length words / n ≡ depth = ap (λ l. l / n) (long ∙ mul_comm n depth) ∙ mul-div_cancel depth some in
-    let cut : whole_pieces n words ≡ gather n depth group =
-    ap (whole_pieces n) e
-    ∙ whole_pieces-flat_map (λ w. w) n (gather n depth group) some (All-map (λ y. length y ≡ n) (block_at n depth group) (range_with_len 0 depth) (λ k d h. length-block_at n depth group (get_or (range_with_len 0 depth) k d)))
-    ∙ map-id (gather n depth group) in
-    sym (get_or-pieces n (length words / n) c words [] (omega arith)) ∙ ap (λ ys. get_or ys c []) cut
+    let cut : whole_pieces n words ≡ ys = ap (whole_pieces n) e ∙ whole_pieces-flat_map (λ w. w) n ys some each ∙ map-id ys in
+    sym (get_or-pieces n (length words / n) c words [] (omega arith)) ∙ ap (λ zs. get_or zs c []) cut
 
-pub block_of_words : (l : Layout) (words group : List ℕ) (c span : ℕ) → IsLayout l → words ≡ flat_map (λ w. w) (gather l.n l.depth group) → c < l.depth → length words ≡ l.n * l.depth → span ≡ l.n → take span (drop (c * l.n) words) ≡ get_or (gather l.n l.depth group) c []
+pub block_of_words : (l : Layout) (words group : List ℕ) (c span : ℕ) → IsLayout l → words ≡ flat_map (λ w. w) (words_of_group l group) → c < l.depth → length words ≡ l.n * l.depth → span ≡ l.n → take span (drop (c * l.n) words) ≡ get_or (words_of_group l group) c []
 block_of_words l words group c span fits e below long is =
-    ap (λ m. take m (drop (c * l.n) words)) is ∙ block_is l.n l.depth c words group (omega (arith, fits.k_least, fits.k_most)) e below long
+    ap (λ m. take m (drop (c * l.n) words)) is ∙ block_is l.n l.depth c words (words_of_group l group) (omega (arith, fits.k_least, fits.k_most)) (All-long-stored_blocks l.packed l.bits l.n l.depth group) e below long
 
 pub length_block : (words : List ℕ) (n depth c span : ℕ) → c < depth → length words ≡ n * depth → span ≡ n → length (take span (drop (c * n) words)) ≡ n
 length_block words n depth c span below long is =

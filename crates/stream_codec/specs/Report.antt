@@ -1,10 +1,12 @@
 -- changes_to F z h  the changes of the first h groups of a text
--- place_changes  the changes from a block to a codeword at its first n places, by the numbers of its group and its codeword
+-- place_changes  the changes from a block to a codeword at its first n places, by the numbers of its group and its
+--                codeword
 -- changes_from   the changes from the blocks of a group to their codewords, from codeword number `word` on
 -- change_line    the line of a change
 -- lines_of       the lines of changes, in order
 -- lines F z      the change lines that are told of a text
--- done_at        the done line of a reading: the bytes of the file, the groups and the changes; nothing where it is no file
+-- done_at        the done line of a reading: the bytes of the file, the groups and the changes; nothing where it is
+--                no file
 -- done F z       the done line of a text
 -- report_of      the change lines of a text, and its done line after them
 -- counts_of      what decoding counts of a text that is read as this file

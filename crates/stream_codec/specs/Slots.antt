@@ -1,4 +1,5 @@
--- SlotState       what contracts see of a slot: the numbers of its bench, the block that came, the codeword and the verdict
+-- SlotState       what contracts see of a slot: the numbers of its bench, the block that came, the codeword and the
+--                 verdict
 -- CanDecode       a slot is as long as a block, and its bench fits the code
 -- loaded          a slot with another block
 -- decoded         a slot after its block is decoded: the codeword is the near of the block or else its low bits

@@ -1,15 +1,14 @@
 -- WindowState    what contracts see of a window: how its groups are stored, and its slots
 -- WindowFits     what holds of the parts of a window of so many groups
--- blocks_at      the blocks of the whole groups of a text, by the numbers of the layout
--- TailSays       why a window was filled no further: there may be more, the source ended, a read failed, or the limit was passed
+-- TailSays       why a window was filled no further: there may be more, the source ended, a read failed, or the limit
+--                was passed
 -- WindowFilled   the whole groups z were taken into the slots, and the bytes p after them were taken too
-use Rattle.std.specs.Prelude.{ℕ, ◌+◌, ◌*◌, ◌<◌, ◌≤◌, ◌≡◌, ◌++◌, Bool, IsTrue, List, [], length, take, flat_map}
+use Rattle.std.specs.Prelude.{ℕ, ◌+◌, ◌*◌, ◌<◌, ◌≤◌, ◌≡◌, ◌++◌, Bool, IsTrue, List, [], length, take}
 use Rattle.ag_io.specs.Counts.{Rose}
 use Rattle.ag_frame.specs.declared.frame.Layout.{Layout}
-use Rattle.ag_frame.specs.Layouts.{IsLayout, bytes_in_group}
-use Rattle.stored_form.specs.Bits.{whole_pieces}
-use Rattle.stored_form.specs.Group.{gather}
-use Rattle.ag_io.specs.Views.{SourceView}
+use Rattle.ag_frame.specs.Layouts.{IsLayout, bytes_in_group, symbols_stored}
+use Rattle.ag_io.specs.Views.{SourceView, IsSpent}
+use Rattle.stream_codec.specs.Layouts.{blocks_at}
 use Rattle.stream_codec.specs.Slots.{SlotState, blocks_of}
 use Rattle.stream_codec.specs.declared.window.Filling.{Filling}
 use Rattle.stream_codec.specs.declared.window.Tail.{Tail}
@@ -25,20 +24,21 @@ pub record WindowFits (l : Layout) (groups slots group words : ℕ) : Type 0 whe
   pub groups_most : groups ≤ 64
   pub slots_are : slots ≡ groups * l.depth
   pub group_long : group ≡ bytes_in_group l
-  pub words_long : words ≡ bytes_in_group l
-
-abbrev pub blocks_at : Layout → List ℕ → List (List ℕ)
-blocks_at l z = flat_map (gather l.n l.depth) (whole_pieces (l.n * l.depth) z)
+  pub words_long : words ≡ symbols_stored l
 
 abbrev pub TailSays : Layout → Bool → SourceView → SourceView → ℕ → ℕ → ℕ → List ℕ → Tail → Type 0
 TailSays l tells before after limit groups total p More = (p ≡ []) × (0 < groups) × (total ≤ limit)
-TailSays l tells before after limit groups total p (End got) = (length p ≡ got) × (got < l.n * l.depth) × (total ≤ limit) × (IsTrue tells → after.left ≡ [])
-TailSays l tells before after limit groups total p Fault = (length p < l.n * l.depth) × (total ≤ limit) × Rose before.faults after.faults
-TailSays l tells before after limit groups total p TooLong = (length p ≤ l.n * l.depth) × (limit < total)
+TailSays l tells before after limit groups total p (End got) =
+    (length p ≡ got) × (got < bytes_in_group l) × (total ≤ limit) × IsSpent tells after
+TailSays l tells before after limit groups total p Fault =
+    (length p < bytes_in_group l) × (total ≤ limit) × Rose before.faults after.faults
+TailSays l tells before after limit groups total p TooLong =
+    (length p ≤ bytes_in_group l) × (limit < total)
 
-pub record WindowFilled (l : Layout) (tells : Bool) (before after : SourceView) (limit taken : ℕ) (slots : List SlotState) (filling : Filling) (z p : List ℕ) : Type 0 where
+pub record WindowFilled (l : Layout) (tells : Bool) (before after : SourceView) (limit taken : ℕ)
+    (slots : List SlotState) (filling : Filling) (z p : List ℕ) : Type 0 where
   pub left : IsTrue tells → before.left ≡ z ++ (p ++ after.left)
-  pub whole : length z ≡ filling.groups * (l.n * l.depth)
+  pub whole : length z ≡ filling.groups * bytes_in_group l
   pub total : filling.taken ≡ taken + length z + length p
   pub within : taken + length z ≤ limit
   pub slots_fit : filling.groups * l.depth ≤ length slots

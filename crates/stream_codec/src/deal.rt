@@ -3,9 +3,12 @@
 ghost use Rattle.std.specs.Prelude.{ℕ, ◌≡◌, ◌+◌, ◌*◌, ◌<◌, ◌≤◌, ◌++◌, List, length, take, All, MatchResult, MatchOption, IfOk, None};
 ghost use Rattle.ag_frame.specs.Layouts.{symbols_in_group};
 ghost use Rattle.stored_form.specs.Form.{Form};
-ghost use Rattle.coded_block.specs.Codes.{IsCode, at_depth};
-ghost use Rattle.stream_codec.specs.Layouts.{Fits};
-ghost use Rattle.stream_codec.specs.Dealing.{IsNear, FirstLost, CountsFit, GroupDealt, GroupFault, HoldsGroups, Dealt, TextFault};
+ghost use Rattle.coded_block.specs.Codes.{IsCode};
+ghost use Rattle.stream_codec.specs.Layouts.{Fits, in_groups};
+ghost use Rattle.stream_codec.specs.Sinks.{sinks_of};
+ghost use Rattle.stream_codec.specs.Dealing.{IsNear, FirstLost, CountsFit, GroupDealt, GroupFault, HoldsGroups};
+ghost use Rattle.stream_codec.specs.Dealing.{Dealt, TextFault};
+ghost use Rattle.stream_codec.specs.declared.limits.TheConstants.{MOST_BYTES};
 ghost use Rattle.ag_io.specs.Views.{SinkView};
 ghost use Rattle.stream_codec.specs.Slots.{IsSettled, blocks_of};
 
@@ -32,8 +35,19 @@ pub fn deal_groups<C: BlockCode, O: Sink, R: Sink>(
     requires size { writer.old.size ≡ symbols_in_group window.now.layout }
     requires width { writer.old.width ≡ window.now.layout.bits }
     requires counts { CountsFit counts.old }
-    requires groups { counts.old.groups + groups ≤ 1099511627776 }
-    ensures dealt { (z w : List ℕ) (out_first report_first : SinkView) → HoldsGroups (C.form code.now) window.now groups w → Dealt (at_depth window.now.layout.depth (C.form code.now)) O.tells out_first (O.view sink.old) R.tells report_first (R.view report.old) writer.old counts.old z → MatchResult result (λ _. Dealt (at_depth window.now.layout.depth (C.form code.now)) O.tells out_first (O.view sink.new) R.tells report_first (R.view report.new) writer.new counts.new (z ++ w)) (λ fault. (more : List ℕ) → TextFault (at_depth window.now.layout.depth (C.form code.now)) O.tells out_first (O.view sink.new) R.tells report_first (R.view report.new) (z ++ (w ++ more)) fault) }
+    requires groups { counts.old.groups + groups ≤ MOST_BYTES }
+    ensures dealt { (z w : List ℕ) (out report_out : SinkView) →
+        let G = in_groups window.now.layout (C.form code.now) in
+        HoldsGroups (C.form code.now) window.now groups w
+        → Dealt G (sinks_of O.tells out (O.view sink.old) R.tells report_out (R.view report.old))
+        writer.old counts.old z
+        → MatchResult result
+        (λ _. Dealt G
+        (sinks_of O.tells out (O.view sink.new) R.tells report_out (R.view report.new))
+        writer.new counts.new (z ++ w))
+        (λ fault. (more : List ℕ) → TextFault G
+        (sinks_of O.tells out (O.view sink.new) R.tells report_out (R.view report.new))
+        (z ++ (w ++ more)) fault) }
     ensures counts { IfOk result (λ _. CountsFit counts.new) }
     ensures groups { IfOk result (λ _. counts.new.groups ≡ counts.old.groups + groups) }
     ensures size { writer.new.size ≡ writer.old.size }
@@ -60,8 +74,14 @@ fn deal_group<C: BlockCode, O: Sink, R: Sink>(
     requires size { writer.old.size ≡ length slots.now * (C.form code.now).k }
     requires width { writer.old.width ≡ (C.form code.now).bits }
     requires counts { CountsFit counts.old }
-    requires groups { counts.old.groups < 1099511627776 }
-    ensures dealt { MatchResult result (λ _. GroupDealt (C.form code.now) O.tells (O.view sink.old) (O.view sink.new) R.tells (R.view report.old) (R.view report.new) writer.old writer.new counts.old counts.new (blocks_of slots.now)) (λ fault. GroupFault (C.form code.now) O.tells (O.view sink.old) (O.view sink.new) R.tells (R.view report.old) (R.view report.new) writer.old counts.old (blocks_of slots.now) fault) }
+    requires groups { counts.old.groups < MOST_BYTES }
+    ensures dealt { let sinks = sinks_of O.tells (O.view sink.old) (O.view sink.new)
+        R.tells (R.view report.old) (R.view report.new) in
+        let blocks = blocks_of slots.now in
+        MatchResult result
+        (λ _. GroupDealt (C.form code.now) sinks
+        writer.old writer.new counts.old counts.new blocks)
+        (λ fault. GroupFault (C.form code.now) sinks writer.old counts.old blocks fault) }
     ensures counts { IfOk result (λ _. CountsFit counts.new) }
     ensures size { writer.new.size ≡ writer.old.size }
     ensures width { writer.new.width ≡ writer.old.width }
@@ -87,7 +107,10 @@ fn deal_group<C: BlockCode, O: Sink, R: Sink>(
 /// The first codeword that has no near.
 fn first_beyond<B: BlockBench>(slots: &[Slot<B>]) -> Option<u32>
     requires { length slots.now ≤ 64 }
-    ensures { MatchOption result ((F : Form) → All (IsSettled F) slots.now → All (IsNear F) (blocks_of slots.now)) (λ word. (F : Form) → All (IsSettled F) slots.now → FirstLost F (blocks_of slots.now) word) }
+    ensures { MatchOption result
+        ((F : Form) → All (IsSettled F) slots.now → All (IsNear F) (blocks_of slots.now))
+        (λ word. (F : Form) → All (IsSettled F) slots.now
+        → FirstLost F (blocks_of slots.now) word) }
 {
     for (c, slot) in slots.iter().enumerate() {
         match slot.verdict() {

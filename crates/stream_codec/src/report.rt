@@ -2,14 +2,13 @@
 
 ghost use Rattle.std.specs.Prelude.{ℕ, ◌≡◌, ◌<◌, ◌≤◌, ◌^◌, ◌++◌, List, length, All, map, MatchResult};
 ghost use Rattle.ag_texts.specs.Lines.{done_line_of};
-ghost use Rattle.stream_codec.specs.Giving.{Wrote, WroteSome, WroteAllBut};
+ghost use Rattle.ag_io.specs.Puts.{Wrote, WroteSome, WroteAllBut};
 ghost use Rattle.stream_codec.specs.Report.{place_changes, changes_from, lines_of};
 ghost use Rattle.stream_codec.specs.Slots.{blocks_of, words_of};
 
-use crate::give::give;
 use crate::pending::Pending;
 use crate::slot::Slot;
-use ag_io::{Failed, Sink};
+use ag_io::{Failed, Sink, put};
 use ag_texts::{LineBuf, changed_line, done_line};
 use coded_block::BlockBench;
 
@@ -24,7 +23,11 @@ pub fn tell_group<B: BlockBench, R: Sink>(
     requires n_few { n ≤ 1024 }
     requires got_long { All (λ s. length s.got ≡ n) slots.now }
     requires word_long { All (λ s. length s.word ≡ n) slots.now }
-    ensures { MatchResult result (λ count. Wrote R.tells (R.view report.old) (R.view report.new) (lines_of (changes_from n group 0 (blocks_of slots.now) (words_of slots.now))) × (count ≡ length (changes_from n group 0 (blocks_of slots.now) (words_of slots.now)))) (λ _. WroteSome R.tells (R.view report.old) (R.view report.new) (lines_of (changes_from n group 0 (blocks_of slots.now) (words_of slots.now)))) }
+    ensures { let changes = changes_from n group 0 (blocks_of slots.now) (words_of slots.now) in
+        let lines = lines_of changes in MatchResult result
+        (λ count. Wrote R.tells (R.view report.old) (R.view report.new) lines
+        × (count ≡ length changes))
+        (λ _. WroteSome R.tells (R.view report.old) (R.view report.new) lines) }
 {
     let mut line = LineBuf::new();
     let mut pending = Pending::new();
@@ -56,7 +59,11 @@ fn tell_block<R: Sink>(
 ) -> Result<u64, Failed>
     requires few { length got.now ≤ 1024 }
     requires same { length codeword.now ≡ length got.now }
-    ensures { MatchResult result (λ count. WroteAllBut R.tells (R.view report.old) (R.view report.new) (pending.old ++ lines_of (place_changes (length got.now) group word got.now codeword.now)) pending.new × (count ≡ length (place_changes (length got.now) group word got.now codeword.now))) (λ _. WroteSome R.tells (R.view report.old) (R.view report.new) (pending.old ++ lines_of (place_changes (length got.now) group word got.now codeword.now))) }
+    ensures { let changes = place_changes (length got.now) group word got.now codeword.now in
+        let bytes = pending.old ++ lines_of changes in MatchResult result
+        (λ count. WroteAllBut R.tells (R.view report.old) (R.view report.new) bytes pending.new
+        × (count ≡ length changes))
+        (λ _. WroteSome R.tells (R.view report.old) (R.view report.new) bytes) }
 {
     let mut count: u64 = 0;
     for p in 0..got.len() {
@@ -76,9 +83,11 @@ pub fn tell_done<R: Sink>(
     changes: u64,
     report: &mut R,
 ) -> Result<(), Failed>
-    ensures { MatchResult result (λ _. Wrote R.tells (R.view report.old) (R.view report.new) (done_line_of bytes groups changes)) (λ _. WroteSome R.tells (R.view report.old) (R.view report.new) (done_line_of bytes groups changes)) }
+    ensures { let line = done_line_of bytes groups changes in MatchResult result
+        (λ _. Wrote R.tells (R.view report.old) (R.view report.new) line)
+        (λ _. WroteSome R.tells (R.view report.old) (R.view report.new) line) }
 {
     let mut line = LineBuf::new();
     done_line(&mut line, bytes, groups, changes);
-    give(report, line.bytes())
+    put(report, line.bytes())
 }

@@ -4,7 +4,7 @@ ghost use Rattle.std.specs.Prelude.{ℕ, ◌≡◌, ◌<◌, ◌≤◌, ◌^◌,
 ghost use Rattle.stored_form.specs.Form.{Form};
 ghost use Rattle.stream_codec.specs.Slots.{SlotState, CanDecode, loaded, decoded};
 
-use ag_pool::{Gate, Work, each};
+use ag_pool::{Gate, Work, Workers, each};
 use coded_block::{BlockBench, BlockCode, Verdict};
 use std::alloc::{AllocError, Global};
 use std::marker::Model;
@@ -24,7 +24,12 @@ impl<B: BlockBench> Model for Slot<B> {
 
     ghost Value = { SlotState };
 
-    ghost view = { λ s. record { bench = B.numbers s.bench; got = s.got.items; word = s.word.items; verdict = s.verdict } };
+    ghost view = { λ s. record {
+      bench = B.numbers s.bench;
+      got = s.got.items;
+      word = s.word.items;
+      verdict = s.verdict;
+    } };
 }
 
 impl<B: BlockBench> Slot<B> {
@@ -102,15 +107,14 @@ pub fn decode_slots<X: Threads + Sync, C: BlockCode + Sync, G: Gate>(
     code: &C,
     slots: &mut [Slot<C::Bench>],
     count: usize,
-    workers: u32,
+    workers: Workers,
     gate: &G,
 )
-    requires least { 1 ≤ workers }
-    requires most { workers ≤ 64 }
     requires within { count ≤ length slots.old }
     requires few { length slots.old < 2 ^ 32 }
     requires ready { All (CanDecode (C.form code.now) (C.numbers code.now)) slots.old }
-    ensures decoded { slots.new ≡ map (decoded (C.form code.now)) (take count slots.old) ++ drop count slots.old }
+    ensures decoded { slots.new
+        ≡ map (decoded (C.form code.now)) (take count slots.old) ++ drop count slots.old }
     ensures ready { All (CanDecode (C.form code.now) (C.numbers code.now)) slots.new }
 {
     each(rt, &DecodeWork { code, gate }, &mut slots[..count], workers);

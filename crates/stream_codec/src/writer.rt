@@ -7,14 +7,13 @@ ghost use Rattle.stored_form.specs.Bits.{symbols_of};
 ghost use Rattle.stored_form.specs.Form.{message_of};
 ghost use Rattle.stored_form.specs.Reading.{message_bits};
 ghost use Rattle.coded_block.specs.Codes.{IsCode};
-ghost use Rattle.stream_codec.specs.Giving.{Wrote, WroteSome};
+ghost use Rattle.ag_io.specs.Puts.{Wrote, WroteSome};
 ghost use Rattle.stream_codec.specs.Slots.{words_of};
-ghost use Rattle.stream_codec.specs.Writing.{bytes_in, bytes_left, WriterFits, EndsFile, EndsNoFile};
+ghost use Rattle.stream_codec.specs.Writing.{bytes_in, last_bytes, bytes_left, WriterFits, EndsFile, EndsNoFile};
 
-use crate::give::give;
 use crate::slot::Slot;
 use ag_frame::{BitsOut, Layout};
-use ag_io::{Failed, Sink};
+use ag_io::{Failed, Sink, put};
 use coded_block::BlockCode;
 use std::alloc::{AllocError, Global};
 use std::marker::Model;
@@ -45,7 +44,12 @@ impl FileWriter {
     /// No bit is released, and no group is held.
     pub fn new(alloc: Global, layout: &Layout) -> Result<FileWriter, AllocError>
         requires { IsLayout layout.now }
-        ensures { IfOk result (λ w. w ≡ record { size = symbols_in_group layout.now; width = layout.now.bits; released = []; held = None }) }
+        ensures { IfOk result (λ w. w ≡ record {
+          size = symbols_in_group layout.now;
+          width = layout.now.bits;
+          released = [];
+          held = None;
+        }) }
     {
         let symbols = layout.depth as usize * layout.k as usize;
         let bytes = layout.group_bits() as usize / 8 + 2;
@@ -75,7 +79,10 @@ impl FileWriter {
             × (count ≡ length (bytes_in self.old)))
             (λ _. WroteSome O.tells (O.view sink.old) (O.view sink.new) (bytes_in self.old)) }
         ensures few { IfOk result (λ count. 8 * count < out_bits self.old + 8) }
-        ensures left { self.new ≡ record self.old { released = bytes_left (self.old.released ++ bits_held self.old.held); held = None } }
+        ensures left { self.new ≡ record self.old {
+          released = bytes_left (self.old.released ++ bits_held self.old.held);
+          held = None;
+        } }
     {
         if self.holds {
             self.bits.release();
@@ -90,7 +97,9 @@ impl FileWriter {
         requires width { self.old.width ≡ (C.form code.now).bits }
         requires size { self.old.size ≡ length slots.now * (C.form code.now).k }
         requires words { All (λ s. length s.word ≡ (C.form code.now).n) slots.now }
-        ensures { self.new ≡ record self.old { held = Some (message_bits (C.form code.now) (words_of slots.now)) } }
+        ensures { self.new ≡ record self.old {
+          held = Some (message_bits (C.form code.now) (words_of slots.now));
+        } }
     {
         messages(code, slots, &mut self.msg);
         self.bits.hold(&self.msg);
@@ -100,8 +109,16 @@ impl FileWriter {
     /// Writes the last bytes of the file and answers how many, or answers None where the held group ends no file.
     pub fn finish<O: Sink>(&mut self, sink: &mut O) -> Result<Option<u64>, Failed>
         requires { IsSome self.old.held }
-        ensures written { MatchResult result (λ found. MatchOption found (EndsNoFile self.old × Wrote O.tells (O.view sink.old) (O.view sink.new) []) (λ count. (front : List Bool) × EndsFile self.old front × Wrote O.tells (O.view sink.old) (O.view sink.new) (symbols_of 8 (self.old.released ++ front)) × (count ≡ length (symbols_of 8 (self.old.released ++ front))))) (λ _. (front : List Bool) × EndsFile self.old front × WroteSome O.tells (O.view sink.old) (O.view sink.new) (symbols_of 8 (self.old.released ++ front))) }
-        ensures few { IfOk result (λ found. IfSome found (λ count. 8 * count < out_bits self.old + 8)) }
+        ensures written { MatchResult result
+            (λ found. MatchOption found
+            (EndsNoFile self.old × Wrote O.tells (O.view sink.old) (O.view sink.new) [])
+            (λ count. (front : List Bool) × EndsFile self.old front
+            × Wrote O.tells (O.view sink.old) (O.view sink.new) (last_bytes self.old front)
+            × (count ≡ length (last_bytes self.old front))))
+            (λ _. (front : List Bool) × EndsFile self.old front
+            × WroteSome O.tells (O.view sink.old) (O.view sink.new) (last_bytes self.old front)) }
+        ensures few { IfOk result
+            (λ found. IfSome found (λ count. 8 * count < out_bits self.old + 8)) }
         ensures size { self.new.size ≡ self.old.size }
         ensures width { self.new.width ≡ self.old.width }
     {
@@ -139,7 +156,7 @@ fn flush<O: Sink>(bits: &mut BitsOut, out: &mut [u8], sink: &mut O) -> Result<u6
     ensures left { bits.new ≡ record bits.old { released = bytes_left bits.old.released } }
 {
     let count = take_bytes(bits, out);
-    give(sink, &out[..count])?;
+    put(sink, &out[..count])?;
     Ok(count as u64)
 }
 

@@ -1,7 +1,8 @@
 -- The groups so far were dealt with.
 use Rattle.std.proofs.Common.{ℕ, ◌≡◌, ◌+◌, ◌*◌, ◌++◌, List, take}
 use Rattle.stored_form.specs.Frame.{group_bytes}
-use Rattle.coded_block.specs.Codes.{at_depth}
+use Rattle.stream_codec.specs.Layouts.{in_groups}
+use Rattle.stream_codec.specs.Sinks.{sinks_of}
 use Rattle.stream_codec.specs.Dealing.{CountsFit, HoldsGroups, Dealt}
 use Rattle.ag_io.specs.Views.{SinkView}
 use Rattle.stream_codec.proofs.deal.deal_groups.Given as goal
@@ -9,8 +10,8 @@ use Rattle.stream_codec.proofs.deal.deal_groups.Given as goal
 abbrev pub invariant-loop-g : goal.invariant-loop-g
 invariant-loop-g g l = record {
   dealt : (z w : List ℕ) (out_first report_first : SinkView) → HoldsGroups (g.C.BlockCode.form l.code) l.window l.groups w →
-      Dealt (at_depth l.window.layout.depth (g.C.BlockCode.form l.code)) g.O.Sink.tells out_first (g.O.Sink.view l.initial.sink) g.R.Sink.tells report_first (g.R.Sink.view l.initial.report) l.initial.writer l.initial.counts z →
-      Dealt (at_depth l.window.layout.depth (g.C.BlockCode.form l.code)) g.O.Sink.tells out_first (g.O.Sink.view l.sink) g.R.Sink.tells report_first (g.R.Sink.view l.report) l.writer l.counts (z ++ take (l.g * group_bytes (at_depth l.window.layout.depth (g.C.BlockCode.form l.code))) w);
+      Dealt (in_groups l.window.layout (g.C.BlockCode.form l.code)) (sinks_of g.O.Sink.tells out_first (g.O.Sink.view l.initial.sink) g.R.Sink.tells report_first (g.R.Sink.view l.initial.report)) l.initial.writer l.initial.counts z →
+      Dealt (in_groups l.window.layout (g.C.BlockCode.form l.code)) (sinks_of g.O.Sink.tells out_first (g.O.Sink.view l.sink) g.R.Sink.tells report_first (g.R.Sink.view l.report)) l.writer l.counts (z ++ take (l.g * group_bytes (in_groups l.window.layout (g.C.BlockCode.form l.code))) w);
   counts : CountsFit l.counts;
   groups : l.counts.groups ≡ l.initial.counts.groups + l.g;
   size : l.writer.size ≡ l.initial.writer.size;

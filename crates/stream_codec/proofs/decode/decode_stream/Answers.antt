@@ -8,7 +8,7 @@ use Rattle.stream_codec.proofs.decode.decode_stream.Goals as goal
 pub decode_windows-requires-clause-ready : goal.decode_windows-requires-clause-ready
 decode_windows-requires-clause-ready g c κs within =
     let fits = rw (← c.room.view_is) at c.requires.fits in
-    room_ready (g.C.BlockCode.form c.args.code.now) (g.C.BlockCode.numbers c.args.code.now) c.room.inside.window c.room.inside.writer c.room.inside.workers c.room.invariant fits
+    room_ready (g.C.BlockCode.form c.args.code.now) (g.C.BlockCode.numbers c.args.code.now) c.room.inside.window c.room.inside.writer c.room.invariant fits
 
 pub returns-clause-fits : goal.returns-clause-fits
 returns-clause-fits g c =

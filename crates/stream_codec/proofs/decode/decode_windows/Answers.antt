@@ -1,19 +1,22 @@
-use Rattle.std.proofs.Common.{◌*◌, ◌≡◌, ◌++◌, [], length, refl, sym, ap, ◌∙◌, arith, append_assoc, length-append}
+use Rattle.std.proofs.Common.{◌*◌, ◌≤◌, subst, mul-le-mul_right, ◌≡◌, ◌++◌, [], length, refl, sym, ap, ◌∙◌, arith, append_assoc, length-append}
 use Rattle.std.proofs.lemmas.Result.{err_from_is_err_and}
+use Rattle.ag_frame.specs.Layouts.{IsLayout, bytes_in_group}
 use Rattle.ag_frame.specs.declared.frame.Layout.{Layout}
+use Rattle.stream_codec.specs.Layouts.{in_groups}
+use Rattle.stream_codec.proofs.FitLemmas.{fits_sound, bytes_small}
+use Rattle.stream_codec.proofs.FillLemmas.{group_some}
 use Rattle.stored_form.specs.Frame.{group_bytes}
 use Rattle.stored_form.proofs.FrameLemmas.{group_bytes_above_0}
-use Rattle.coded_block.specs.Codes.{at_depth}
-use Rattle.stream_codec.proofs.Gifts.{rose_after}
+use Rattle.ag_io.proofs.Writes.{rose_after}
 use Rattle.stream_codec.proofs.DealtLemmas.{dealt_none}
-use Rattle.stream_codec.proofs.WindowGroups.{group_size, window_holds, dealt_at}
+use Rattle.stream_codec.proofs.WindowGroups.{group_size, window_holds, dealt_at, fault_at}
 use Rattle.stream_codec.proofs.DecodedLemmas.{window_taken, groups_fit, decoded_fault, decoded_end, decoded_input_fault, decoded_too_long}
 use Rattle.stream_codec.proofs.decode.decode_windows.Goals as goal
 
 pub windows-init : goal.windows-init
 windows-init g c =
-    let G = at_depth c.args.window.now.layout.depth (g.C.BlockCode.form c.args.code.now) in
-    let sound = c.requires.fits.code.sound c.args.window.now.layout.depth (omega (arith, c.requires.fits.layout.depth_least)) in
+    let G = in_groups c.args.window.now.layout (g.C.BlockCode.form c.args.code.now) in
+    let sound = fits_sound (g.C.BlockCode.form c.args.code.now) c.args.window.now.layout c.requires.fits in
     record {
       decoding = (
         [],
@@ -43,10 +46,10 @@ deal_groups-requires-clause-holds g c κs within =
 pub deal_groups-requires-clause-groups : goal.deal_groups-requires-clause-groups
 deal_groups-requires-clause-groups g c κs within =
     let F = g.C.BlockCode.form c.args.code.now in
-    let depth = c.args.window.now.layout.depth in
-    let G = at_depth depth F in
-    let sound = c.requires.fits.code.sound depth (omega (arith, c.requires.fits.layout.depth_least)) in
-    let size : c.windows.window.layout.n * c.windows.window.layout.depth ≡ group_bytes G = ap (λ (l : Layout). l.n * l.depth) c.windows.invariant.layout ∙ group_size c.args.window.now.layout F c.requires.fits in
+    let l = c.args.window.now.layout in
+    let G = in_groups l F in
+    let sound = fits_sound F l c.requires.fits in
+    let size : bytes_in_group c.windows.window.layout ≡ group_bytes G = ap bytes_in_group c.windows.invariant.layout ∙ group_size c.args.window.now.layout F c.requires.fits in
     let (z, k) = c.windows.invariant.decoding in
     let (w, p, f) = c.fill-filling.ensures.filled in
     let most = groups_fit c.windows.counts.groups c.fill-filling.result.groups (group_bytes G) (length z) (length w) c.args.limit (group_bytes_above_0 G sound) k.dealt.whole (f.whole ∙ ap (λ m. c.fill-filling.result.groups * m) size) (omega (arith, k.taken_is, f.within)) in
@@ -57,15 +60,15 @@ returns-in_err-deal_groups-clause-decoded g c =
     let e = err_from_is_err_and c.from_residual.result c.from_residual.ensures.1 in
     let F = g.C.BlockCode.form c.args.code.now in
     let l = c.windows.window.layout in
-    let G = at_depth c.args.window.now.layout.depth F in
-    let size : l.n * l.depth ≡ group_bytes G = ap (λ (v : Layout). v.n * v.depth) c.windows.invariant.layout ∙ group_size c.args.window.now.layout F c.requires.fits in
+    let G = in_groups c.args.window.now.layout F in
+    let size : bytes_in_group l ≡ group_bytes G = ap bytes_in_group c.windows.invariant.layout ∙ group_size c.args.window.now.layout F c.requires.fits in
     let (z, k) = c.windows.invariant.decoding in
     let (w, p, f) = c.fill-filling.ensures.filled in
     let holds = window_holds F (g.C.BlockCode.numbers c.args.code.now) l c.fill-filling.new.self c.decode.new.self c.fill-filling.result.groups w c.fill-filling.ensures.layout c.decode.ensures.layout f.whole f.slots_fit f.blocks_are c.decode.ensures.decoded c.decode.ensures.ready in
-    let depth : c.decode.new.self.layout.depth ≡ c.args.window.now.layout.depth = ap (λ (v : Layout). v.depth) (c.decode.ensures.layout ∙ c.fill-filling.ensures.layout ∙ c.windows.invariant.layout) in
-    let start = dealt_at F _ _ k.dealt (sym depth) in
+    let same : c.decode.new.self.layout ≡ c.args.window.now.layout = c.decode.ensures.layout ∙ c.fill-filling.ensures.layout ∙ c.windows.invariant.layout in
+    let start = dealt_at F _ _ k.dealt (sym same) in
     let fault = c.in_err-deal_groups.ensures.dealt z w _ _ holds start in
-    rw (e.1, e.2) (decoded_fault _ z w p c.in_err-deal_groups.field-0.0 (window_taken l _ _ _ _ _ z w p size k.left k.taken_is k.source_counted c.fill-filling.ensures.counted f) (rw depth at fault))
+    rw (e.1, e.2) (decoded_fault _ z w p c.in_err-deal_groups.field-0.0 (window_taken l _ _ _ _ _ z w p size k.left k.taken_is k.source_counted c.fill-filling.ensures.counted f) (fault_at g.O.Sink.tells g.R.Sink.tells (g.O.Sink.view c.args.sink.now) (g.O.Sink.view c.deal_groups.new.sink) (g.R.Sink.view c.args.report.now) (g.R.Sink.view c.deal_groups.new.report) z w c.in_err-deal_groups.field-0.0 F _ _ fault same))
 
 pub windows-preserved : goal.windows-preserved
 windows-preserved g c =
@@ -74,9 +77,9 @@ windows-preserved g c =
     let (z, k) = c.windows.invariant.decoding in
     let (w, p, f) = c.fill-filling.ensures.filled in
     let holds = window_holds F (g.C.BlockCode.numbers c.args.code.now) l c.fill-filling.new.self c.decode.new.self c.fill-filling.result.groups w c.fill-filling.ensures.layout c.decode.ensures.layout f.whole f.slots_fit f.blocks_are c.decode.ensures.decoded c.decode.ensures.ready in
-    let depth : c.decode.new.self.layout.depth ≡ c.args.window.now.layout.depth = ap (λ (v : Layout). v.depth) (c.decode.ensures.layout ∙ c.fill-filling.ensures.layout ∙ c.windows.invariant.layout) in
-    let start = dealt_at F _ _ k.dealt (sym depth) in
-    let dealt = dealt_at F _ _ (c.in_ok-deal_groups.ensures.dealt z w _ _ holds start) depth in
+    let same : c.decode.new.self.layout ≡ c.args.window.now.layout = c.decode.ensures.layout ∙ c.fill-filling.ensures.layout ∙ c.windows.invariant.layout in
+    let start = dealt_at F _ _ k.dealt (sym same) in
+    let dealt = dealt_at F _ _ (c.in_ok-deal_groups.ensures.dealt z w _ _ holds start) same in
     let tail = rw c.in-More.is at f.tail in
     record {
       decoding = (
@@ -99,10 +102,10 @@ windows-preserved g c =
 pub end_text-requires-clause-groups : goal.end_text-requires-clause-groups
 end_text-requires-clause-groups g c =
     let F = g.C.BlockCode.form c.args.code.now in
-    let depth = c.args.window.now.layout.depth in
-    let G = at_depth depth F in
-    let sound = c.requires.fits.code.sound depth (omega (arith, c.requires.fits.layout.depth_least)) in
-    let size : c.windows.window.layout.n * c.windows.window.layout.depth ≡ group_bytes G = ap (λ (l : Layout). l.n * l.depth) c.windows.invariant.layout ∙ group_size c.args.window.now.layout F c.requires.fits in
+    let l = c.args.window.now.layout in
+    let G = in_groups l F in
+    let sound = fits_sound F l c.requires.fits in
+    let size : bytes_in_group c.windows.window.layout ≡ group_bytes G = ap bytes_in_group c.windows.invariant.layout ∙ group_size c.args.window.now.layout F c.requires.fits in
     let (z, k) = c.windows.invariant.decoding in
     let (w, p, f) = c.fill-filling.ensures.filled in
     let most = groups_fit c.windows.counts.groups c.fill-filling.result.groups (group_bytes G) (length z) (length w) c.args.limit (group_bytes_above_0 G sound) k.dealt.whole (f.whole ∙ ap (λ m. c.fill-filling.result.groups * m) size) (omega (arith, k.taken_is, f.within)) in
@@ -114,22 +117,22 @@ end_text-requires-clause-held g c =
     let (z, k) = c.windows.invariant.decoding in
     let (w, p, f) = c.fill-filling.ensures.filled in
     let holds = window_holds F (g.C.BlockCode.numbers c.args.code.now) c.windows.window.layout c.fill-filling.new.self c.decode.new.self c.fill-filling.result.groups w c.fill-filling.ensures.layout c.decode.ensures.layout f.whole f.slots_fit f.blocks_are c.decode.ensures.decoded c.decode.ensures.ready in
-    let depth : c.decode.new.self.layout.depth ≡ c.args.window.now.layout.depth = ap (λ (v : Layout). v.depth) (c.decode.ensures.layout ∙ c.fill-filling.ensures.layout ∙ c.windows.invariant.layout) in
-    (c.in_ok-deal_groups.ensures.dealt z w _ _ holds (dealt_at F _ _ k.dealt (sym depth))).some
+    let same : c.decode.new.self.layout ≡ c.args.window.now.layout = c.decode.ensures.layout ∙ c.fill-filling.ensures.layout ∙ c.windows.invariant.layout in
+    (c.in_ok-deal_groups.ensures.dealt z w _ _ holds (dealt_at F _ _ k.dealt (sym same))).some
 
 pub returns-in-End-clause-decoded : goal.returns-in-End-clause-decoded
 returns-in-End-clause-decoded g c =
     let F = g.C.BlockCode.form c.args.code.now in
     let l = c.windows.window.layout in
-    let G = at_depth c.args.window.now.layout.depth F in
-    let sound = c.requires.fits.code.sound c.args.window.now.layout.depth (omega (arith, c.requires.fits.layout.depth_least)) in
-    let size : l.n * l.depth ≡ group_bytes G = ap (λ (v : Layout). v.n * v.depth) c.windows.invariant.layout ∙ group_size c.args.window.now.layout F c.requires.fits in
+    let G = in_groups c.args.window.now.layout F in
+    let sound = fits_sound (g.C.BlockCode.form c.args.code.now) c.args.window.now.layout c.requires.fits in
+    let size : bytes_in_group l ≡ group_bytes G = ap bytes_in_group c.windows.invariant.layout ∙ group_size c.args.window.now.layout F c.requires.fits in
     let (z, k) = c.windows.invariant.decoding in
     let (w, p, f) = c.fill-filling.ensures.filled in
     let holds = window_holds F (g.C.BlockCode.numbers c.args.code.now) l c.fill-filling.new.self c.decode.new.self c.fill-filling.result.groups w c.fill-filling.ensures.layout c.decode.ensures.layout f.whole f.slots_fit f.blocks_are c.decode.ensures.decoded c.decode.ensures.ready in
-    let depth : c.decode.new.self.layout.depth ≡ c.args.window.now.layout.depth = ap (λ (v : Layout). v.depth) (c.decode.ensures.layout ∙ c.fill-filling.ensures.layout ∙ c.windows.invariant.layout) in
-    let start = dealt_at F _ _ k.dealt (sym depth) in
-    let dealt = dealt_at F _ _ (c.in_ok-deal_groups.ensures.dealt z w _ _ holds start) depth in
+    let same : c.decode.new.self.layout ≡ c.args.window.now.layout = c.decode.ensures.layout ∙ c.fill-filling.ensures.layout ∙ c.windows.invariant.layout in
+    let start = dealt_at F _ _ k.dealt (sym same) in
+    let dealt = dealt_at F _ _ (c.in_ok-deal_groups.ensures.dealt z w _ _ holds start) same in
     let tail = rw c.in-End.is at f.tail in
     decoded_end _ (z ++ w) p c.end_text.result (window_taken l _ _ _ _ _ z w p size k.left k.taken_is k.source_counted c.fill-filling.ensures.counted f) tail.3 (c.end_text.ensures.ended G (z ++ w) p _ _ sound dealt tail.0 (omega (arith, tail.1, size)))
 
@@ -137,15 +140,15 @@ pub returns-in-Fault-clause-decoded : goal.returns-in-Fault-clause-decoded
 returns-in-Fault-clause-decoded g c =
     let F = g.C.BlockCode.form c.args.code.now in
     let l = c.windows.window.layout in
-    let G = at_depth c.args.window.now.layout.depth F in
-    let sound = c.requires.fits.code.sound c.args.window.now.layout.depth (omega (arith, c.requires.fits.layout.depth_least)) in
-    let size : l.n * l.depth ≡ group_bytes G = ap (λ (v : Layout). v.n * v.depth) c.windows.invariant.layout ∙ group_size c.args.window.now.layout F c.requires.fits in
+    let G = in_groups c.args.window.now.layout F in
+    let sound = fits_sound (g.C.BlockCode.form c.args.code.now) c.args.window.now.layout c.requires.fits in
+    let size : bytes_in_group l ≡ group_bytes G = ap bytes_in_group c.windows.invariant.layout ∙ group_size c.args.window.now.layout F c.requires.fits in
     let (z, k) = c.windows.invariant.decoding in
     let (w, p, f) = c.fill-filling.ensures.filled in
     let holds = window_holds F (g.C.BlockCode.numbers c.args.code.now) l c.fill-filling.new.self c.decode.new.self c.fill-filling.result.groups w c.fill-filling.ensures.layout c.decode.ensures.layout f.whole f.slots_fit f.blocks_are c.decode.ensures.decoded c.decode.ensures.ready in
-    let depth : c.decode.new.self.layout.depth ≡ c.args.window.now.layout.depth = ap (λ (v : Layout). v.depth) (c.decode.ensures.layout ∙ c.fill-filling.ensures.layout ∙ c.windows.invariant.layout) in
-    let start = dealt_at F _ _ k.dealt (sym depth) in
-    let dealt = dealt_at F _ _ (c.in_ok-deal_groups.ensures.dealt z w _ _ holds start) depth in
+    let same : c.decode.new.self.layout ≡ c.args.window.now.layout = c.decode.ensures.layout ∙ c.fill-filling.ensures.layout ∙ c.windows.invariant.layout in
+    let start = dealt_at F _ _ k.dealt (sym same) in
+    let dealt = dealt_at F _ _ (c.in_ok-deal_groups.ensures.dealt z w _ _ holds start) same in
     let tail = rw c.in-Fault.is at f.tail in
     decoded_input_fault _ c.deal_groups.new.writer c.deal_groups.new.counts (z ++ w) p sound (window_taken l _ _ _ _ _ z w p size k.left k.taken_is k.source_counted c.fill-filling.ensures.counted f) (omega (arith, tail.0, size)) (rose_after _ _ _ k.source_counted tail.2) dealt
 
@@ -153,14 +156,33 @@ pub returns-in-TooLong-clause-decoded : goal.returns-in-TooLong-clause-decoded
 returns-in-TooLong-clause-decoded g c =
     let F = g.C.BlockCode.form c.args.code.now in
     let l = c.windows.window.layout in
-    let G = at_depth c.args.window.now.layout.depth F in
-    let sound = c.requires.fits.code.sound c.args.window.now.layout.depth (omega (arith, c.requires.fits.layout.depth_least)) in
-    let size : l.n * l.depth ≡ group_bytes G = ap (λ (v : Layout). v.n * v.depth) c.windows.invariant.layout ∙ group_size c.args.window.now.layout F c.requires.fits in
+    let G = in_groups c.args.window.now.layout F in
+    let sound = fits_sound (g.C.BlockCode.form c.args.code.now) c.args.window.now.layout c.requires.fits in
+    let size : bytes_in_group l ≡ group_bytes G = ap bytes_in_group c.windows.invariant.layout ∙ group_size c.args.window.now.layout F c.requires.fits in
     let (z, k) = c.windows.invariant.decoding in
     let (w, p, f) = c.fill-filling.ensures.filled in
     let holds = window_holds F (g.C.BlockCode.numbers c.args.code.now) l c.fill-filling.new.self c.decode.new.self c.fill-filling.result.groups w c.fill-filling.ensures.layout c.decode.ensures.layout f.whole f.slots_fit f.blocks_are c.decode.ensures.decoded c.decode.ensures.ready in
-    let depth : c.decode.new.self.layout.depth ≡ c.args.window.now.layout.depth = ap (λ (v : Layout). v.depth) (c.decode.ensures.layout ∙ c.fill-filling.ensures.layout ∙ c.windows.invariant.layout) in
-    let start = dealt_at F _ _ k.dealt (sym depth) in
-    let dealt = dealt_at F _ _ (c.in_ok-deal_groups.ensures.dealt z w _ _ holds start) depth in
+    let same : c.decode.new.self.layout ≡ c.args.window.now.layout = c.decode.ensures.layout ∙ c.fill-filling.ensures.layout ∙ c.windows.invariant.layout in
+    let start = dealt_at F _ _ k.dealt (sym same) in
+    let dealt = dealt_at F _ _ (c.in_ok-deal_groups.ensures.dealt z w _ _ holds start) same in
     let tail = rw c.in-TooLong.is at f.tail in
     decoded_too_long _ c.deal_groups.new.writer c.deal_groups.new.counts (z ++ w) p c.fill-filling.result.taken sound (window_taken l _ _ _ _ _ z w p size k.left k.taken_is k.source_counted c.fill-filling.ensures.counted f) (omega (arith, length-append z w, k.taken_is, f.within)) (omega (arith, tail.0, size)) tail.1 (omega (arith, length-append z w, k.taken_is, f.total)) dealt
+
+-- a window that is full has taken bytes
+pub windows-smaller : goal.windows-smaller
+windows-smaller g c =
+    let l = c.windows.window.layout in
+    let (z, k) = c.windows.invariant.decoding in
+    let (w, p, f) = c.fill-filling.ensures.filled in
+    let tail = rw c.in-More.is at f.tail in
+    let some = group_some l (subst (λ (v : Layout). IsLayout v) (sym c.windows.invariant.layout) c.requires.fits.layout) in
+    let more : 1 * bytes_in_group l ≤ c.fill-filling.result.groups * bytes_in_group l = mul-le-mul_right (bytes_in_group l) (omega (arith, tail.1)) in
+    omega (arith, f.whole, f.total, ap length tail.0, tail.2, some, more)
+
+pub end_text-requires-clause-few : goal.end_text-requires-clause-few
+end_text-requires-clause-few g c =
+    let l = c.windows.window.layout in
+    let (w, p, f) = c.fill-filling.ensures.filled in
+    let tail = rw c.in-End.is at f.tail in
+    let few = bytes_small l (subst (λ (v : Layout). IsLayout v) (sym c.windows.invariant.layout) c.requires.fits.layout) in
+    omega (arith, tail.1, few)

@@ -6,7 +6,7 @@ use Rattle.stream_codec.proofs.decode.decode_windows.Given as goal
 
 abbrev pub invariant-windows : goal.invariant-windows
 invariant-windows g l = record {
-  decoding : (z : List ℕ) × Decoding (g.C.BlockCode.form l.code) l.initial.window.layout.depth g.I.Source.tells (g.I.Source.view l.initial.src) (g.I.Source.view l.src)
+  decoding : (z : List ℕ) × Decoding (g.C.BlockCode.form l.code) l.initial.window.layout g.I.Source.tells (g.I.Source.view l.initial.src) (g.I.Source.view l.src)
       g.O.Sink.tells (g.O.Sink.view l.initial.sink) (g.O.Sink.view l.sink)
       g.R.Sink.tells (g.R.Sink.view l.initial.report) (g.R.Sink.view l.report)
       l.writer l.counts l.limit l.taken z;

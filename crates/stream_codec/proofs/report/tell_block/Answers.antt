@@ -2,7 +2,7 @@ use Rattle.std.proofs.Common.{◌≡◌, ◌+◌, ◌++◌, List, [], ◌∷◌,
 use Rattle.std.proofs.lemmas.List.{append-nil}
 use Rattle.std.proofs.lemmas.Result.{err_from_is_err_and}
 use Rattle.stream_codec.specs.Report.{place_changes, change_line, lines_of}
-use Rattle.stream_codec.proofs.Writes.{all_waits, all_but_more, all_but_some, behind}
+use Rattle.ag_io.proofs.Writes.{all_waits, all_but_more, all_but_some, behind}
 use Rattle.stream_codec.proofs.ReportLemmas.{change_at, lines_of_new, lines_of_places, few_place_changes, place_changes_same, place_changes_new}
 use Rattle.stream_codec.proofs.report.tell_block.Goals as goal
 use Rattle.stream_codec.proofs.report.tell_block.Goals.{then-got-p+in_ok-add, else-got-p}

@@ -1,6 +1,6 @@
 -- The changes so far were told, or their lines wait.
 use Rattle.std.proofs.Common.{◌≡◌, ◌++◌, length}
-use Rattle.stream_codec.specs.Giving.{WroteAllBut}
+use Rattle.ag_io.specs.Puts.{WroteAllBut}
 use Rattle.stream_codec.specs.Report.{place_changes, lines_of}
 use Rattle.stream_codec.proofs.report.tell_block.Given as goal
 

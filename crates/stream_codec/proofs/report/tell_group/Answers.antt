@@ -4,7 +4,7 @@ use Rattle.std.proofs.lemmas.Result.{err_from_is_err_and}
 use Rattle.stream_codec.specs.Slots.{SlotState}
 use Rattle.stream_codec.specs.Report.{place_changes}
 use Rattle.stream_codec.proofs.SlotLemmas.{at_slot}
-use Rattle.stream_codec.proofs.Writes.{all_waits, all_but_more, all_but_some, all_but_none, none_but_some}
+use Rattle.ag_io.proofs.Writes.{all_waits, all_but_more, all_but_some, all_but_none, none_but_some}
 use Rattle.stream_codec.proofs.ReportLemmas.{group_step, few_place_changes}
 use Rattle.stream_codec.proofs.report.tell_group.Goals as goal
 

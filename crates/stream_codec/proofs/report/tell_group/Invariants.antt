@@ -1,6 +1,6 @@
 -- The changes of the codewords so far were told, or their lines wait.
 use Rattle.std.proofs.Common.{◌≡◌, length, take}
-use Rattle.stream_codec.specs.Giving.{WroteAllBut}
+use Rattle.ag_io.specs.Puts.{WroteAllBut}
 use Rattle.stream_codec.specs.Report.{changes_from, lines_of}
 use Rattle.stream_codec.specs.Slots.{blocks_of, words_of}
 use Rattle.stream_codec.proofs.report.tell_group.Given as goal

@@ -1,7 +1,7 @@
 use Rattle.std.proofs.Common.{[], mul-le-mul_right, length-drop, ◌+◌, ◌-◌, ◌*◌, ◌≡◌, ◌≤◌, ◌++◌, length, take, drop, refl, ◌∙◌, subst, arith, length-take-le}
 use Rattle.stream_codec.specs.declared.window.Tail.TheVariants.{More, End, Fault}
 use Rattle.stream_codec.proofs.FillLemmas.{IsFilling, group_some, filling_starts, filling_more, window_closed, All-put_mid}
-use Rattle.stream_codec.proofs.Gifts.{rose_after}
+use Rattle.ag_io.proofs.Writes.{rose_after}
 use Rattle.stream_codec.specs.Slots.{SlotState, CanDecode}
 use Rattle.std.proofs.lemmas.List.Elements.{All-take, All-drop}
 use Rattle.stream_codec.proofs.window.fill_groups.Goals as goal

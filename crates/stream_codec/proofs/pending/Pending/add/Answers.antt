@@ -1,6 +1,6 @@
 use Rattle.std.proofs.Common.{refl}
 use Rattle.std.proofs.lemmas.Result.{err_from_is_err_and}
-use Rattle.stream_codec.proofs.Writes.{some_of_longer}
+use Rattle.ag_io.proofs.Writes.{some_of_longer}
 use Rattle.stream_codec.proofs.pending.Pending.add.Goals as goal
 
 pub returns-in_err-write : goal.returns-in_err-write
