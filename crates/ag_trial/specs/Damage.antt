@@ -64,7 +64,8 @@ abbrev pub in_pieces : {X : Type 0} → (List ℕ → List X) → (size : ℕ) �
 in_pieces f size text = flat_map f (whole_pieces size text)
 
 abbrev pub text_words : (packed : Bool) (width n depth : ℕ) → List ℕ → List (List ℕ)
-text_words packed width n depth text = in_pieces (stored_blocks packed width n depth) (stored_size packed width (n * depth)) text
+text_words packed width n depth text =
+    in_pieces (stored_blocks packed width n depth) (stored_size packed width (n * depth)) text
 
 pub record IsTrialRead (F : Form) (t : ℕ) (x z : List ℕ) (g : Lcg) : Type 0 where
   pub read_as : reading F z ≡ File x

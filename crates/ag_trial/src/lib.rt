@@ -1,6 +1,7 @@
 //! Files and damage from a number, for trials: the same number gives the same bytes and the same changes on every machine.
 //! Start at [`Trial::new`]. The generator is PCG32 of `rand_pcg`, and each draw is its next word modulo a bound; what is
-//! drawn, in which order, stands in specs/Words and specs/Damage. No call takes memory.
+//! drawn, in which order, stands in specs/Words and specs/Damage, and by the layout of a group in specs/Groups. No call
+//! takes memory.
 #![tactic(auto)]
 
 ghost use Rattle.std.specs.Prelude.{true, ℕ, ◌≡◌, ◌≢◌, ◌+◌, ◌*◌, ◌%◌, ◌^◌, ◌<◌, ◌≤◌, length, slice_index_or, []};
@@ -30,8 +31,8 @@ impl Model for Trial {
     ghost view = { λ t. t.words };
 }
 
-/// In each codeword exactly as many stored symbols are changed as were drawn for it, at distinct positions, and at most t. The
-/// contract is the theorem.
+/// In each codeword exactly as many stored symbols are changed as were drawn for it, at distinct positions, and at most t.
+/// The contract is the theorem.
 pub fn damage_is_as_drawn()
     ensures { DamageLaw }
 {}
@@ -125,11 +126,13 @@ impl Trial {
         ensures drawn { result ≡ group_changes layout.now t group.old self.old }
 
         // What follows from these: how far the words are from those before.
-        ensures changes { result
-            ≡ total_distance (words_of_group layout.now group.new) (words_of_group layout.now group.old) }
+        ensures changes { result ≡ total_distance
+            (words_of_group layout.now group.new)
+            (words_of_group layout.now group.old) }
         ensures small { result ≤ layout.now.depth * t }
-        ensures near { (c : ℕ) → c < layout.now.depth
-            → distance (word_of_group layout.now group.new c) (word_of_group layout.now group.old c) ≤ t }
+        ensures near { (c : ℕ) → c < layout.now.depth → distance
+            (word_of_group layout.now group.new c)
+            (word_of_group layout.now group.old c) ≤ t }
     {
         let mut changes = 0;
         for c in 0..layout.depth {
