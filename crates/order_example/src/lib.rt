@@ -3,12 +3,8 @@
 //! the definitions.
 #![tactic(auto)]
 
-mod points;
-
 ghost use Rattle.order_theory.specs.Basis.{IsSoundBasis};
 ghost use Rattle.order_example.specs.SmallCurve.{small_basis, SmallVotes, OtherVotes};
-
-pub use points::are_points;
 
 /// The basis of the small curve is sound.
 pub fn small_basis_is_sound()

@@ -3,12 +3,12 @@
 
 ghost use Rattle.std.specs.Prelude.{◌≡◌, length, IfSome};
 
-use super::are_points;
+use ag_pool::Workers;
 use cab_curve::{CabDomain, Curve, Point, Term};
 use eval_basis::{CheckRule, Checked, EvalBasis};
 use gf_field::{Field, PolyField};
 use order_bound::{TableSays, bound, check_table, table_text};
-use order_domain::OrderDomain;
+use order_domain::{OrderDomain, Points};
 use search_decoder::near_by_search;
 use std::alloc::Global;
 use std::thread::Threads;
@@ -23,21 +23,30 @@ pub fn point(x: u8, y: u8) -> Point {
     Point { x, y, z: 0 }
 }
 
-// The basis of the domain at these points, where they are points of it.
+// These points, where they are distinct.
+fn listed(alloc: Global, points: &[Point]) -> Option<Points> {
+    Points::of(points.to_vec(alloc).ok()?)
+}
+
+// The basis of the domain at these points, where they are distinct and points of it.
 fn built<X: Threads + Sync, F: Field + Sync, D: OrderDomain>(
     rt: &X,
     alloc: Global,
-    f: &F,
+    f: F,
     dom: &D,
     points: &[Point],
-) -> Option<EvalBasis> {
-    if f.bits() != dom.bits() || points.is_empty() || points.len() > 1024 {
+) -> Option<EvalBasis<F>> {
+    let points = listed(alloc, points)?;
+    if f.bits() != dom.bits() {
         return None;
     }
-    if !are_points(f, dom, points) {
+    if points.is_empty() {
         return None;
     }
-    EvalBasis::build(rt, alloc, f, dom, points, 1).ok()
+    if !points.are_on(&f, dom) {
+        return None;
+    }
+    EvalBasis::build(rt, alloc, f, dom, &points, Workers::ONE).ok()
 }
 
 /// The basis of a curve with the weights 2 and 3 over GF(4).
@@ -46,14 +55,14 @@ pub fn on_curve<X: Threads + Sync>(
     alloc: Global,
     terms: [Term; 3],
     points: &[Point],
-) -> Option<EvalBasis> {
+) -> Option<EvalBasis<PolyField>> {
     let f = PolyField::new(2, 7)?;
     let curve = Curve::new(alloc, &f, 2, 3, &terms).ok()?;
     if curve.bits() != 2 {
         return None;
     }
     let dom = CabDomain::new(alloc, curve, 2).ok()?;
-    built(rt, alloc, &f, &dom, points)
+    built(rt, alloc, f, &dom, points)
 }
 
 /// y² + y = x³
@@ -99,11 +108,11 @@ pub enum Row<'a> {
     Table(&'a [u8]),
 }
 
-fn has_numbers(basis: &EvalBasis, numbers: [u32; 3]) -> bool {
+fn has_numbers(basis: &EvalBasis<PolyField>, numbers: [u32; 3]) -> bool {
     [basis.bits(), basis.modulus(), basis.count()] == numbers
 }
 
-fn has_labels(basis: &EvalBasis, labels: [u32; 8]) -> bool
+fn has_labels(basis: &EvalBasis<PolyField>, labels: [u32; 8]) -> bool
     requires { basis.now.n ≡ 8 }
 {
     for k in 0..8u32 {
@@ -114,7 +123,7 @@ fn has_labels(basis: &EvalBasis, labels: [u32; 8]) -> bool
     true
 }
 
-fn has_ranks(basis: &EvalBasis, ranks: [u32; 8]) -> bool
+fn has_ranks(basis: &EvalBasis<PolyField>, ranks: [u32; 8]) -> bool
     requires { basis.now.n ≡ 8 }
 {
     for k in 0..8u32 {
@@ -125,7 +134,7 @@ fn has_ranks(basis: &EvalBasis, ranks: [u32; 8]) -> bool
     true
 }
 
-fn has_pairs(basis: &EvalBasis, pairs: [u32; 8]) -> bool
+fn has_pairs(basis: &EvalBasis<PolyField>, pairs: [u32; 8]) -> bool
     requires { basis.now.n ≡ 8 }
 {
     for k in 0..8u32 {
@@ -136,25 +145,25 @@ fn has_pairs(basis: &EvalBasis, pairs: [u32; 8]) -> bool
     true
 }
 
-fn has_vector(basis: &EvalBasis, k: u32, vector: [u8; 8]) -> bool
+fn has_vector(basis: &EvalBasis<PolyField>, k: u32, vector: [u8; 8]) -> bool
     requires { basis.now.n ≡ 8 }
 {
     k < 8 && basis.vector(k) == vector.as_slice()
 }
 
-fn has_dual(basis: &EvalBasis, k: u32, dual: [u8; 8]) -> bool
+fn has_dual(basis: &EvalBasis<PolyField>, k: u32, dual: [u8; 8]) -> bool
     requires { basis.now.n ≡ 8 }
 {
     k < 8 && basis.dual(k) == dual.as_slice()
 }
 
-fn has_sum(basis: &EvalBasis, i: u32, j: u32, sum: u32) -> bool
+fn has_sum(basis: &EvalBasis<PolyField>, i: u32, j: u32, sum: u32) -> bool
     requires { basis.now.n ≡ 8 }
 {
     i < 8 && j < 8 && basis.sum_at(i, j) == sum
 }
 
-fn has_lead(basis: &EvalBasis, i: u32, j: u32, lead: u8) -> bool
+fn has_lead(basis: &EvalBasis<PolyField>, i: u32, j: u32, lead: u8) -> bool
     requires { basis.now.n ≡ 8 }
 {
     i < 8 && j < 8 && basis.lead(i, j) == lead
@@ -171,7 +180,7 @@ fn marks_in(checked: &Checked) -> u32
     count
 }
 
-fn checks(alloc: Global, basis: &EvalBasis, rule: CheckRule, size: u32) -> Option<bool>
+fn checks(alloc: Global, basis: &EvalBasis<PolyField>, rule: CheckRule, size: u32) -> Option<bool>
     requires { basis.now.n ≡ 8 }
 {
     let checked = Checked::new(alloc, basis, rule).ok()?;
@@ -179,46 +188,47 @@ fn checks(alloc: Global, basis: &EvalBasis, rule: CheckRule, size: u32) -> Optio
 }
 
 // The members with labels up to a weight.
-fn up_to(alloc: Global, basis: &EvalBasis, weight: u32) -> Option<Checked>
+fn up_to(alloc: Global, basis: &EvalBasis<PolyField>, weight: u32) -> Option<Checked>
     ensures { IfSome result (λ checked. length checked ≡ basis.now.n) }
 {
     Checked::new(alloc, basis, CheckRule::AtMost { weight }).ok()
 }
 
-fn has_bound(alloc: Global, basis: &EvalBasis, weight: u32, least: Option<u32>) -> Option<bool> {
+fn has_bound(
+    alloc: Global,
+    basis: &EvalBasis<PolyField>,
+    weight: u32,
+    least: Option<u32>,
+) -> Option<bool> {
     let checked = up_to(alloc, basis, weight)?;
     Some(bound(basis, &checked) == least)
 }
 
 // What the search finds near these bytes.
-fn near<F: Field>(f: &F, basis: &EvalBasis, checked: &Checked, got: [u8; 8]) -> Option<[u8; 8]>
-    requires bits { F.bits_of f.now ≡ basis.now.bits }
-    requires modulus { F.modulus_of f.now ≡ basis.now.modulus }
+fn near(basis: &EvalBasis<PolyField>, checked: &Checked, got: [u8; 8]) -> Option<[u8; 8]>
     requires marks { length checked.now ≡ basis.now.n }
     requires long { basis.now.n ≡ 8 }
 {
     let mut word = [0; 8];
-    if !near_by_search(f, basis, checked, 2, &got, &mut word) {
+    if !near_by_search(basis, checked, 2, &got, &mut word) {
         return None;
     }
     Some(word)
 }
 
-fn has_near(alloc: Global, basis: &EvalBasis, got: [u8; 8], word: Option<[u8; 8]>) -> Option<bool>
+fn has_near(
+    alloc: Global,
+    basis: &EvalBasis<PolyField>,
+    got: [u8; 8],
+    word: Option<[u8; 8]>,
+) -> Option<bool>
     requires { basis.now.n ≡ 8 }
 {
-    let f = PolyField::new(2, 7)?;
-    if basis.bits() != f.bits() {
-        return None;
-    }
-    if basis.modulus() != f.modulus() {
-        return None;
-    }
     let checked = up_to(alloc, basis, 5)?;
-    Some(near(&f, basis, &checked, got) == word)
+    Some(near(basis, &checked, got) == word)
 }
 
-fn has_table(alloc: Global, basis: &EvalBasis, table: &[u8]) -> Option<bool> {
+fn has_table(alloc: Global, basis: &EvalBasis<PolyField>, table: &[u8]) -> Option<bool> {
     let checked = up_to(alloc, basis, 5)?;
     bound(basis, &checked)?;
     let text = table_text(alloc, basis, &checked).ok()?;
@@ -226,7 +236,7 @@ fn has_table(alloc: Global, basis: &EvalBasis, table: &[u8]) -> Option<bool> {
 }
 
 // Whether a basis answers what a row says.
-fn is_met(alloc: Global, basis: &EvalBasis, row: Row) -> bool
+fn is_met(alloc: Global, basis: &EvalBasis<PolyField>, row: Row) -> bool
     requires { basis.now.n ≡ 8 }
 {
     match row {
@@ -245,7 +255,7 @@ fn is_met(alloc: Global, basis: &EvalBasis, row: Row) -> bool
     }
 }
 
-fn are_met_by(alloc: Global, basis: &EvalBasis, rows: &[Row]) -> bool {
+fn are_met_by(alloc: Global, basis: &EvalBasis<PolyField>, rows: &[Row]) -> bool {
     if basis.n() != 8 {
         return false;
     }
@@ -276,11 +286,14 @@ fn said_on<F: Field, D: OrderDomain>(
     dom: &D,
     text: &[u8],
 ) -> Option<TableSays> {
-    let points = small_points();
+    let points = listed(alloc, &small_points())?;
     if f.bits() != dom.bits() {
         return None;
     }
-    if !are_points(f, dom, &points) {
+    if points.is_empty() {
+        return None;
+    }
+    if !points.are_on(f, dom) {
         return None;
     }
     let rule = CheckRule::AtMost { weight: 5 };

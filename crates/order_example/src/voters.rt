@@ -6,7 +6,7 @@ ghost use Rattle.vote_core.specs.Voters.{Fits};
 
 use crate::rig::{on_curve, small_points, small_terms};
 use eval_basis::{CheckRule, Checked, EvalBasis};
-use gf_field::{Field, PolyField};
+use gf_field::PolyField;
 use plain_voter::{PlainFind, PlainLine, find_plainly};
 use std::alloc::{AllocError, Global};
 use std::thread::Threads;
@@ -15,14 +15,11 @@ use vote_core::{Found, VoteLine, Voter};
 // A code, and a number of changes that it corrects.
 #[derive(Drop)]
 struct SmallCode {
-    f: PolyField,
-    basis: EvalBasis,
+    basis: EvalBasis<PolyField>,
     checked: Checked,
     // a member that is not checked
     free: u32,
     t: u32,
-    ghost bits: { f.bits ≡ basis.bits },
-    ghost modulus: { f.modulus ≡ basis.modulus },
     ghost marks: { length checked ≡ basis.n },
     ghost inside: { free < basis.n },
     ghost is_free: { marked checked free ≡ false },
@@ -30,7 +27,7 @@ struct SmallCode {
 }
 
 // A member that is not checked.
-fn free_member(basis: &EvalBasis, checked: &Checked) -> Option<u32>
+fn free_member(basis: &EvalBasis<PolyField>, checked: &Checked) -> Option<u32>
     requires { length checked.now ≡ basis.now.n }
     ensures inside { IfSome result (λ k. k < basis.now.n) }
     ensures free { IfSome result (λ k. marked checked.now k ≡ false) }
@@ -44,7 +41,7 @@ fn free_member(basis: &EvalBasis, checked: &Checked) -> Option<u32>
 }
 
 // Whether each member that is not checked has more than 2t pairs.
-fn corrects(basis: &EvalBasis, checked: &Checked, t: u32) -> bool
+fn corrects(basis: &EvalBasis<PolyField>, checked: &Checked, t: u32) -> bool
     requires marks { length checked.now ≡ basis.now.n }
     requires small { t < 1000 }
     ensures { IsTrue result → IsBound basis.now checked.now (2 * t + 1) }
@@ -60,20 +57,12 @@ fn corrects(basis: &EvalBasis, checked: &Checked, t: u32) -> bool
 }
 
 // A member that is not checked, where these are the parts of a code that corrects t changes.
-fn free_in_code(f: &PolyField, basis: &EvalBasis, checked: &Checked, t: u32) -> Option<u32>
+fn free_in_code(basis: &EvalBasis<PolyField>, checked: &Checked, t: u32) -> Option<u32>
     requires { length checked.now ≡ basis.now.n }
-    ensures bits { IfSome result (λ free. f.now.bits ≡ basis.now.bits) }
-    ensures modulus { IfSome result (λ free. f.now.modulus ≡ basis.now.modulus) }
     ensures inside { IfSome result (λ free. free < basis.now.n) }
     ensures is_free { IfSome result (λ free. marked checked.now free ≡ false) }
     ensures radius { IfSome result (λ free. IsBound basis.now checked.now (2 * t + 1)) }
 {
-    if basis.bits() != f.bits() {
-        return None;
-    }
-    if basis.modulus() != f.modulus() {
-        return None;
-    }
     if t >= 1000 {
         return None;
     }
@@ -113,22 +102,24 @@ const WEAK: Kind = Kind {
 };
 
 // The basis of the small curve at the first of its points.
-fn small_basis<X: Threads + Sync>(rt: &X, alloc: Global, count: u32) -> Option<EvalBasis> {
+fn small_basis<X: Threads + Sync>(
+    rt: &X,
+    alloc: Global,
+    count: u32,
+) -> Option<EvalBasis<PolyField>> {
     let points = small_points();
     on_curve(rt, alloc, small_terms(), points.get(..count as usize)?)
 }
 
 // The code of a kind.
 fn small_code<X: Threads + Sync>(rt: &X, alloc: Global, kind: Kind) -> Option<SmallCode> {
-    let f = PolyField::new(2, 7)?;
     let basis = small_basis(rt, alloc, kind.points)?;
     let rule = CheckRule::AtMost {
         weight: kind.weight,
     };
     let checked = Checked::new(alloc, &basis, rule).ok()?;
-    let free = free_in_code(&f, &basis, &checked, kind.t)?;
+    let free = free_in_code(&basis, &checked, kind.t)?;
     Some(SmallCode {
-        f,
         basis,
         checked,
         free,
@@ -151,7 +142,7 @@ fn finds(code: &SmallCode, voter: &mut Voter, got: &[u8], err: &mut [u8]) -> boo
     requires got { length got.now ≡ code.now.basis.n }
     requires err { length err.old ≡ code.now.basis.n }
 {
-    voter.find(&code.f, &code.basis, got, err) == Found::Error
+    voter.find(&code.basis, got, err) == Found::Error
 }
 
 // The votes as plain numbers.
@@ -206,7 +197,7 @@ fn found_plainly(
 ) -> Result<Option<PlainFind>, AllocError>
     requires { length got.now ≡ code.now.basis.n }
 {
-    find_plainly(alloc, &code.f, &code.basis, &code.checked, code.t, got)
+    find_plainly(alloc, &code.basis, &code.checked, code.t, got)
 }
 
 fn plain_voter_says(alloc: Global, code: &SmallCode, got: &[u8]) -> Result<Says, AllocError>
