@@ -2,7 +2,6 @@
 use Rattle.std.proofs.Common.{◌≡◌, ℕ, ◌*◌, ◌<◌, ◌≤◌, ◌^◌, List, length, slice_index, sym, ◌∙◌, ap, subst, refl, arith}
 use Rattle.field_theory.specs.Field.{IsField}
 use Rattle.gf_theory.specs.Field.{gf_mul, IsModulus}
-use Rattle.linear_theory.specs.Tables.{rows_of}
 use Rattle.linear_theory.proofs.Entries.{dot_entries}
 use Rattle.linear_theory.proofs.Tables.{length-rows_of}
 use Rattle.counting_theory.specs.Votes.{pairs}

@@ -3,7 +3,6 @@ use Rattle.std.proofs.Common.{◌≡◌, ℕ, ◌<◌, true, List, length, slice
 use Rattle.gf_theory.specs.Field.{gf_mul}
 use Rattle.linear_theory.specs.Linear.{dot}
 use Rattle.linear_theory.proofs.Entries.{dot_entries}
-use Rattle.counting_theory.specs.Votes.{pairs}
 use Rattle.order_theory.specs.Basis.{Basis, IsWord, rank_at, vector, pairs_at, times}
 use Rattle.order_theory.specs.Codes.{marked, AreAllMarked, IsCodeword}
 use Rattle.order_theory.specs.Errors.{syndrome}

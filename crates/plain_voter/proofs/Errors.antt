@@ -1,17 +1,11 @@
 -- What the voter answers
-use Rattle.std.proofs.Common.{ℕ, ◌≡◌, ◌+◌, ◌*◌, ◌%◌, ◌^◌, ◌<◌, ◌≤◌, Bool, List, ◌++◌, length, get_or, take, drop, sym, ◌∙◌, ap, subst, arith, bit_xor}
-use Rattle.std.specs.Int.Bits.{xor_self}
+use Rattle.std.proofs.Common.{ℕ, ◌≡◌, ◌+◌, ◌*◌, ◌≤◌, Bool, List, ◌++◌, length, take, drop, sym, ◌∙◌, ap, subst}
 use Rattle.std.proofs.Math.Seq.{take-append_seam}
-use Rattle.std.proofs.lemmas.List.{get_or_default, get_or-map, length-map}
-use Rattle.std.proofs.lemmas.Nat.{mod_below, pow_pos}
-use Rattle.field_theory.proofs.Sums.{xor_below}
 use Rattle.order_theory.specs.Basis.{Basis, IsSoundBasis, IsWord, times}
-use Rattle.order_theory.specs.Codes.{IsBound, list_sum, low_bits}
+use Rattle.order_theory.specs.Codes.{IsBound}
 use Rattle.order_theory.specs.Course.{IsErrorOf}
-use Rattle.order_theory.specs.Errors.{syndrome, weight}
+use Rattle.order_theory.specs.Errors.{weight}
 use Rattle.order_theory.proofs.Errors.{error_from}
-use Rattle.order_theory.proofs.Weights.{length-list_sum, get_or-list_sum}
-use Rattle.order_theory.proofs.Theorems.{syndrome_sum}
 use Rattle.plain_voter.specs.declared.line.PlainLine.{PlainLine}
 use Rattle.plain_voter.specs.declared.plain.PlainFind.{PlainFind}
 use Rattle.plain_voter.specs.Finds.{IsFind}
