@@ -39,7 +39,8 @@ pub fn read_number(digits: &[u8]) -> Option<u64>
 /// The number that at most nineteen digits write; None where one of the bytes is no digit.
 fn digits_value(digits: &[u8]) -> Option<u64>
     requires { length digits.now < 20 }
-    ensures { result ≡ (if all_ascii_digits digits.now then Some (value_of 10 digits.now) else None) }
+    ensures { result
+        ≡ (if all_ascii_digits digits.now then Some (value_of 10 digits.now) else None) }
 {
     let mut value: u64 = 0;
     for d in digits {

@@ -60,7 +60,8 @@ pub fn field_axioms<F: Field>(f: &F)
     ensures sums { SumLaws }
     ensures products { ProductLaws (F.bits_of f.now) (F.modulus_of f.now) }
     ensures axioms { FieldLaws (F.bits_of f.now) (F.modulus_of f.now) }
-    ensures is_field { IsField (2 ^ F.bits_of f.now) (gf_mul (F.bits_of f.now) (F.modulus_of f.now)) }
+    ensures is_field { IsField (2 ^ F.bits_of f.now)
+        (gf_mul (F.bits_of f.now) (F.modulus_of f.now)) }
 {
     f.bits();
     polynomials_are_a_ring();
@@ -79,7 +80,8 @@ pub struct PolyField {
 impl PolyField {
     /// None exactly where `bits` is not 2 to 8, or `modulus` is not irreducible of that degree.
     pub fn new(bits: u32, modulus: u32) -> Option<PolyField>
-        ensures { MatchOption result (IsModulus bits modulus → ⊥) (λ f. (f.bits ≡ bits) × (f.modulus ≡ modulus)) }
+        ensures { MatchOption result (IsModulus bits modulus → ⊥)
+            (λ f. (f.bits ≡ bits) × (f.modulus ≡ modulus)) }
     {
         if 2 <= bits && bits <= 8 && is_irreducible(bits, modulus) {
             Some(PolyField { bits, modulus })

@@ -44,7 +44,8 @@ fn are_generators(a: u32, b: u32) -> bool
 impl Semi {
     /// None exactly where `a` or `b` is not 2 to 32, or they are not coprime.
     pub fn new(a: u32, b: u32) -> Option<Semi>
-        ensures generators { MatchOption result (AreGenerators a b → ⊥) (λ s. (s.a ≡ a) × (s.b ≡ b)) }
+        ensures generators { MatchOption result (AreGenerators a b → ⊥)
+            (λ s. (s.a ≡ a) × (s.b ≡ b)) }
         ensures test { is_some result ≡ are_generators a b }
     {
         if are_generators(a, b) {
@@ -66,8 +67,10 @@ impl Semi {
     /// member.
     pub fn exps(&self, w: u32) -> Option<(u32, u32)>
         ensures member { is_some result ≡ is_member self.now.a self.now.b w }
-        ensures exponents { IfSome result (λ e. (e.0 ≡ x_exponent self.now.a self.now.b w) × (e.1 ≡ y_exponent self.now.a self.now.b w)) }
-        ensures weight { IfSome result (λ e. (e.1 < self.now.a) × (self.now.a * e.0 + self.now.b * e.1 ≡ w)) }
+        ensures exponents { let s = self.now in IfSome result
+            (λ e. (e.0 ≡ x_exponent s.a s.b w) × (e.1 ≡ y_exponent s.a s.b w)) }
+        ensures weight { let s = self.now in IfSome result
+            (λ e. (e.1 < s.a) × (s.a * e.0 + s.b * e.1 ≡ w)) }
     {
         for j in 0..self.a {
             if self.b * j <= w && (w - self.b * j) % self.a == 0 {
