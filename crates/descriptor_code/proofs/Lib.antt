@@ -1,4 +1,8 @@
-pub mod Plain
+pub mod Spaces
+pub mod Lists
+pub mod Built
+pub mod Votes
+pub mod Plainly
 pub mod OneCode
 pub mod ByMonomials
-pub mod Laws
+pub mod Making

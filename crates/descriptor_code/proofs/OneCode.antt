@@ -5,8 +5,8 @@ use Rattle.order_theory.specs.Codes.{IsOrderBound, IsRadius}
 use Rattle.eval_basis.specs.Rules.{checked_by}
 use Rattle.eval_basis.proofs.Determined.{determined_law}
 use Rattle.block_code.specs.Compiled.{Compiled}
-use Rattle.code_descriptor.specs.Meaning.{Parts}
-use Rattle.descriptor_code.specs.Codes.{domain_of, rule_of, IsCodeOf}
+use Rattle.code_descriptor.specs.Parts.{Parts}
+use Rattle.descriptor_code.specs.Codes.{domain_of, IsCodeOf}
 
 bound_at_most : (b : Basis) (marks : List Bool) (x y : ℕ) → IsOrderBound b marks x → IsOrderBound b marks y → x ≤ y
 bound_at_most b marks x y hx hy =
@@ -35,7 +35,7 @@ module _ (p : Parts) (c d : Compiled) (is_c : IsCodeOf p c) (is_d : IsCodeOf p d
   basis_same = determined_law (domain_of p) p.modulus p.points c.basis d.basis is_c.built is_d.built is_c.made.sound is_d.made.sound
 
   marks_same : c.marks ≡ d.marks
-  marks_same = is_c.marks ∙ ap (λ (b : Basis). checked_by b (rule_of p)) basis_same ∙ sym is_d.marks
+  marks_same = is_c.marks ∙ ap (λ (b : Basis). checked_by b p.rule) basis_same ∙ sym is_d.marks
 
   bound_same : c.bound ≡ d.bound
   bound_same =
