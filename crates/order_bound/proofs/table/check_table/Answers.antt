@@ -1,7 +1,6 @@
 use Rattle.std.proofs.Common.{◌≤◌, List, length, sym, subst}
 use Rattle.order_domain.specs.declared.Point.{Point}
 use Rattle.order_domain.specs.Domain.{ArePoints}
-use Rattle.order_bound.specs.Reading.{OnLine}
 use Rattle.order_bound.specs.TableChecks.{IsAccepted, IsRefused}
 use Rattle.order_bound.proofs.Tables.{accepted_is_table}
 use Rattle.order_bound.proofs.Once.{refused_is_no_table}
