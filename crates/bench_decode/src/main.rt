@@ -4,15 +4,15 @@
 
 ghost use Rattle.std.specs.Prelude.{ℕ, ◌≡◌, ◌≢◌, ◌+◌, ◌*◌, ◌<◌, ◌≤◌, length, get_or, IsTrue, IfOk, IfSome, false};
 ghost use Rattle.order_theory.specs.Codes.{marked, IsBound};
-ghost use Rattle.order_domain.specs.Domain.{ArePoints};
 ghost use Rattle.vote_core.specs.Voters.{Fits};
 
+use ag_pool::Workers;
 use anyhow::{Context, Result, bail, ensure};
-use cab_curve::{CabDomain, Curve, Point, Term};
+use cab_curve::{CabDomain, Curve, Term};
 use eval_basis::{CheckRule, Checked, EvalBasis};
 use gf_field::{Field, PolyField};
 use gf_tables::TableField;
-use order_domain::OrderDomain;
+use order_domain::Points;
 use std::alloc::Global;
 use std::env;
 use std::env::Env;
@@ -62,37 +62,8 @@ impl Sizes {
     }
 }
 
-// Whether a point stands among those before place `j`.
-fn is_repeated(points: &[Point], j: usize) -> bool
-    requires { j < length points.now }
-    ensures { result ≡ false → (i : ℕ) (d : Point) → i < j → get_or points.now i d ≢ get_or points.now j d }
-{
-    for i in 0..j {
-        if points[i] == points[j] {
-            return true;
-        }
-    }
-    false
-}
-
-// Whether these are distinct points of the domain.
-fn are_points<F: Field, D: OrderDomain>(f: &F, domain: &D, points: &[Point]) -> bool
-    requires { F.bits_of f.now ≡ (D.domain domain.now).bits }
-    ensures { IsTrue result → ArePoints (D.domain domain.now) (F.modulus_of f.now) points.now }
-{
-    for j in 0..points.len() {
-        if is_repeated(points, j) {
-            return false;
-        }
-        if !domain.on(f, &points[j]) {
-            return false;
-        }
-    }
-    true
-}
-
 // A member that is not checked.
-fn free_member(basis: &EvalBasis, checked: &Checked) -> Option<u32>
+fn free_member<F: Field>(basis: &EvalBasis<F>, checked: &Checked) -> Option<u32>
     requires { length checked.now ≡ basis.now.n }
     ensures inside { IfSome result (λ k. k < basis.now.n) }
     ensures free { IfSome result (λ k. marked checked.now k ≡ false) }
@@ -106,7 +77,7 @@ fn free_member(basis: &EvalBasis, checked: &Checked) -> Option<u32>
 }
 
 // Whether each member that is not checked has more pairs than twice the radius.
-fn corrects(basis: &EvalBasis, checked: &Checked, radius: u32) -> bool
+fn corrects<F: Field>(basis: &EvalBasis<F>, checked: &Checked, radius: u32) -> bool
     requires marks { length checked.now ≡ basis.now.n }
     requires radius { radius < 1000 }
     ensures { IsTrue result → IsBound basis.now checked.now (2 * radius + 1) }
@@ -136,7 +107,7 @@ fn damage(word: &mut [u8], changes: usize)
 }
 
 // Adds the dual lists of all members that are not checked: together they are a codeword.
-fn add_codeword(basis: &EvalBasis, checked: &Checked, word: &mut [u8])
+fn add_codeword<F: Field>(basis: &EvalBasis<F>, checked: &Checked, word: &mut [u8])
     requires marks { length checked.now ≡ basis.now.n }
     requires room { length word.old ≡ basis.now.n }
     ensures { length word.new ≡ basis.now.n }
@@ -164,21 +135,18 @@ fn sums(lines: &[VoteLine]) -> (u32, u32) {
 
 // Decodes a word so often, each time to the same error; the sums of its ledger.
 fn decode<F: Field>(
-    f: &F,
-    basis: &EvalBasis,
+    basis: &EvalBasis<F>,
     voter: &mut Voter,
     got: &[u8],
     err: &mut [u8],
     times: u32,
 ) -> Option<(u32, u32)>
     requires fits { Fits voter.old basis.now }
-    requires bits { F.bits_of f.now ≡ basis.now.bits }
-    requires modulus { F.modulus_of f.now ≡ basis.now.modulus }
     requires received { length got.now ≡ basis.now.n }
     requires room { length err.old ≡ basis.now.n }
 {
     for _ in 0..times {
-        match voter.find(f, basis, got, err) {
+        match voter.find(basis, got, err) {
             Found::Error => {}
             Found::Far => return None,
         }
@@ -196,12 +164,10 @@ fn number(words: &[String], place: usize) -> Result<u32> {
 fn basis_of<X: Threads + Sync>(
     rt: &X,
     alloc: Global,
-    f: &TableField,
+    f: TableField,
     sizes: Sizes,
-) -> Result<EvalBasis>
-    requires bits { f.now.bits ≡ sizes.bits }
-    ensures bits { IfOk result (λ b. b.bits ≡ f.now.bits) }
-    ensures modulus { IfOk result (λ b. b.modulus ≡ f.now.modulus) }
+) -> Result<EvalBasis<TableField>>
+    requires { f.bits ≡ sizes.bits }
 {
     let terms = [
         Term {
@@ -216,18 +182,14 @@ fn basis_of<X: Threads + Sync>(
             c: 1,
         },
     ];
-    let Ok(curve) = Curve::new(alloc, f, sizes.a, sizes.a + 1, &terms) else {
+    let Ok(curve) = Curve::new(alloc, &f, sizes.a, sizes.a + 1, &terms) else {
         bail!("no curve");
     };
-    let points = curve.all_points(alloc, f)?;
+    let points = Points::of(curve.all_points(alloc, &f)?).context("too many points")?;
     let domain = CabDomain::new(alloc, curve, sizes.bits)?;
-    ensure!(
-        !points.is_empty() && points.len() <= 1024,
-        "{} points",
-        points.len()
-    );
-    ensure!(are_points(f, &domain, &points), "no points");
-    Ok(EvalBasis::build(rt, alloc, f, &domain, &points, 1)?)
+    ensure!(!points.is_empty(), "no points");
+    ensure!(points.are_on(&f, &domain), "no points of the curve");
+    Ok(EvalBasis::build(rt, alloc, f, &domain, &points, Workers::ONE)?)
 }
 
 // Decodes a codeword with so many changes so often.
@@ -240,7 +202,7 @@ fn run<X: Threads + Sync>(
 ) -> Result<(u32, u32)> {
     let field = PolyField::new(sizes.bits, sizes.modulus).context("irreducible")?;
     let f = TableField::new(alloc, &field)?;
-    let basis = basis_of(rt, alloc, &f, sizes)?;
+    let basis = basis_of(rt, alloc, f, sizes)?;
     let rule = CheckRule::AtMost {
         weight: sizes.weight,
     };
@@ -253,7 +215,7 @@ fn run<X: Threads + Sync>(
     add_codeword(&basis, &checked, &mut got);
     damage(&mut got, changes as usize);
     let mut voter = Voter::new(alloc, &basis, &checked, sizes.radius)?;
-    decode(&f, &basis, &mut voter, &got, &mut err, times).context("too many changes")
+    decode(&basis, &mut voter, &got, &mut err, times).context("too many changes")
 }
 
 fn main(rt: HostRuntime) -> Result<()> {
@@ -290,7 +252,7 @@ mod tests {
         let sizes = Sizes::read("small").context("a code")?;
         let field = PolyField::new(sizes.bits, sizes.modulus).context("irreducible")?;
         let f = TableField::new(alloc, &field)?;
-        let basis = basis_of(rt, alloc, &f, sizes)?;
+        let basis = basis_of(rt, alloc, f, sizes)?;
         let rule = CheckRule::AtMost {
             weight: sizes.weight,
         };
@@ -301,7 +263,7 @@ mod tests {
         ensure!(got.len() == size, "another length");
         ensure!(err.len() == size, "another length");
         let mut voter = Voter::new(alloc, &basis, &checked, sizes.radius)?;
-        let found = voter.find(&f, &basis, got, err);
+        let found = voter.find(&basis, got, err);
         let mut ledger = Vec::new(alloc);
         for line in voter.ledger() {
             ledger.push(numbers(line))?;
