@@ -13,7 +13,7 @@ use Rattle.small_block.specs.declared.TheConstants.{WORDS}
 
 pub small_is_code : IsCode (small_form 1)
 small_is_code = record {
-  sound = λ depth some. small_form_is_sound depth some;
+  sound = small_form_is_sound;
   bits_least = omega arith;
   n_most = omega arith;
 }

@@ -81,7 +81,7 @@ static WORDS: [[u8; 8]; 64] = [
     [3, 3, 3, 3, 3, 3, 3, 3],
 ];
 
-/// The code. Contracts see it as `small_form 1`.
+/// The code. Contracts see it as `small_form 1`, which stands for it in groups of any depth and layout.
 #[derive(Clone, Copy)]
 pub struct SmallCode;
 

@@ -1,16 +1,19 @@
 //! Texts that are decoded.
 
 ghost use Rattle.std.specs.Prelude.{◌≤◌};
+ghost use Rattle.stream_codec.specs.Layouts.{Fits};
 ghost use Rattle.stream_codec.specs.Rooms.{RoomFits};
+ghost use Rattle.stream_codec.specs.declared.limits.TheConstants.{MOST_BYTES};
 
 use crate::SmallCode;
+use ag_frame::Layout;
 use ag_io::{MemSink, MemSource, Sink, Source};
-use ag_pool::OpenGate;
+use ag_pool::{OpenGate, Workers};
 use coded_block::BlockCode;
 use std::alloc::Global;
 use std::test::Fail;
 use std::thread::Threads;
-use stream_codec::{DecodeCounts, DecodeFault, DecodeRoom, decode_stream};
+use stream_codec::{DecodeCounts, DecodeFault, DecodeRoom, decode_stream, layout_of};
 
 // A text, the calls of its source and of the two sinks that fail, and what decoding it has to answer, to write and to report.
 #[derive(Drop)]
@@ -36,7 +39,7 @@ fn decode<X: Threads + Sync, C: BlockCode + Sync, I: Source, O: Sink, R: Sink>(
     limit: u64,
 ) -> Result<DecodeCounts, DecodeFault>
     requires fits { RoomFits (C.form code.now) (C.numbers code.now) room.old }
-    requires limit { limit ≤ 1099511627776 }
+    requires limit { limit ≤ MOST_BYTES }
     ensures { RoomFits (C.form code.now) (C.numbers code.now) room.new }
 {
     decode_stream(rt, code, room, src, out, report, limit, &OpenGate)
@@ -63,22 +66,20 @@ fn is_met<X: Threads + Sync, C: BlockCode + Sync>(
     Ok(is_told && report.bytes() == case.report.as_bytes())
 }
 
-// Which cases are not met, one after the other in one room of groups of so many codewords for so many workers.
+// Which cases are not met, one after the other in one room of groups of this layout for so many workers.
 fn missed<X: Threads + Sync, C: BlockCode + Sync>(
     rt: &X,
     alloc: Global,
     code: &C,
-    depth: u32,
+    layout: &Layout,
     workers: u32,
     cases: &[Case],
 ) -> Result<Vec<usize>, Fail>
-    requires depth_least { 1 ≤ depth }
-    requires depth_most { depth ≤ 64 }
-    requires workers_least { 1 ≤ workers }
-    requires workers_most { workers ≤ 64 }
+    requires { Fits layout.now (C.form code.now) }
 {
+    let workers = Workers::new(workers).ok_or("they are 1 to 64")?;
     let mut missed = Vec::new(alloc);
-    let mut room = DecodeRoom::new(alloc, code, depth, workers)?;
+    let mut room = DecodeRoom::new(alloc, code, layout, workers)?;
     for (index, case) in cases.iter().enumerate() {
         if !is_met(rt, alloc, code, &mut room, case)? {
             missed.push(index)?;
@@ -153,7 +154,14 @@ fn texts_are_read(rt: HostRuntime) -> Result<(), Fail> {
             "changed 0 0 0 06 02\ndone bytes 0 groups 1 changed 1\n",
         ),
     ];
-    let missed = missed(&rt, rt.alloc(), &SmallCode, 1, 3, &cases)?;
+    let missed = missed(
+        &rt,
+        rt.alloc(),
+        &SmallCode,
+        &layout_of(&SmallCode, 1, false),
+        3,
+        &cases,
+    )?;
     assert!(rt; missed.is_empty(), "{missed:?}");
     Ok(())
 }
@@ -178,7 +186,14 @@ fn other_texts_are_refused(rt: HostRuntime) -> Result<(), Fail> {
         answered(&early, Err(DecodeFault::Framing), &[], ""),
         answered(&ONE[..8], Err(DecodeFault::Framing), &[], ""),
     ];
-    let missed = missed(&rt, rt.alloc(), &SmallCode, 1, 2, &cases)?;
+    let missed = missed(
+        &rt,
+        rt.alloc(),
+        &SmallCode,
+        &layout_of(&SmallCode, 1, false),
+        2,
+        &cases,
+    )?;
     assert!(rt; missed.is_empty(), "{missed:?}");
     Ok(())
 }
@@ -203,7 +218,14 @@ fn decoding_says_why_it_stops(rt: HostRuntime) -> Result<(), Fail> {
             ..answered(&ONE, Err(DecodeFault::TooLong { taken: 16 }), &[], "")
         },
     ];
-    let missed = missed(&rt, rt.alloc(), &SmallCode, 1, 1, &cases)?;
+    let missed = missed(
+        &rt,
+        rt.alloc(),
+        &SmallCode,
+        &layout_of(&SmallCode, 1, false),
+        1,
+        &cases,
+    )?;
     assert!(rt; missed.is_empty(), "{missed:?}");
     Ok(())
 }
@@ -217,7 +239,14 @@ fn any_number_of_workers_decodes_groups_of_two_alike(rt: HostRuntime) -> Result<
         "changed 0 0 0 01 02\nchanged 0 0 3 00 02\nchanged 0 1 0 01 00\nchanged 0 1 7 03 00\ndone bytes 0 groups 1 changed 4\n",
     )];
     for workers in 1..=4 {
-        let missed = missed(&rt, rt.alloc(), &SmallCode, 2, workers, &cases)?;
+        let missed = missed(
+            &rt,
+            rt.alloc(),
+            &SmallCode,
+            &layout_of(&SmallCode, 2, false),
+            workers,
+            &cases,
+        )?;
         assert!(rt; missed.is_empty(), "{missed:?} with {workers} workers");
     }
     Ok(())
@@ -247,7 +276,68 @@ fn texts_of_more_than_one_window_are_decoded_in_order(rt: HostRuntime) -> Result
         ),
     ];
     for workers in [1, 3] {
-        let missed = missed(&rt, rt.alloc(), &SmallCode, 1, workers, &cases)?;
+        let missed = missed(
+            &rt,
+            rt.alloc(),
+            &SmallCode,
+            &layout_of(&SmallCode, 1, false),
+            workers,
+            &cases,
+        )?;
+        assert!(rt; missed.is_empty(), "{missed:?} with {workers} workers");
+    }
+    Ok(())
+}
+
+// The same texts with two bits for each symbol, and what none of bytes can be.
+#[test]
+fn packed_texts_are_read(rt: HostRuntime) -> Result<(), Fail> {
+    let cases = [
+        answered(
+            &[0x82, 0xd8],
+            counts(1, 0, 0),
+            &[],
+            "done bytes 0 groups 1 changed 0\n",
+        ),
+        answered(
+            &[0x41, 0xb4, 0x63, 0x33],
+            counts(2, 1, 0),
+            &[0x41],
+            "done bytes 1 groups 2 changed 0\n",
+        ),
+        answered(
+            &[0x84, 0xd8],
+            counts(1, 0, 2),
+            &[],
+            "changed 0 0 2 01 00\nchanged 0 0 3 00 02\ndone bytes 0 groups 1 changed 2\n",
+        ),
+        answered(
+            &[0x54, 0x00],
+            Err(DecodeFault::Beyond { group: 0, word: 0 }),
+            &[],
+            "",
+        ),
+        answered(&[0x82], Err(DecodeFault::Ragged { extra: 1 }), &[], ""),
+    ];
+    let layout = layout_of(&SmallCode, 1, true);
+    for workers in [1, 8] {
+        let missed = missed(&rt, rt.alloc(), &SmallCode, &layout, workers, &cases)?;
+        assert!(rt; missed.is_empty(), "{missed:?} with {workers} workers");
+    }
+    Ok(())
+}
+
+#[test]
+fn packed_groups_of_two_are_read(rt: HostRuntime) -> Result<(), Fail> {
+    let cases = [answered(
+        &[0x50, 0x00, 0xc4, 0x83],
+        counts(1, 0, 4),
+        &[],
+        "changed 0 0 0 01 02\nchanged 0 0 3 00 02\nchanged 0 1 0 01 00\nchanged 0 1 7 03 00\ndone bytes 0 groups 1 changed 4\n",
+    )];
+    let layout = layout_of(&SmallCode, 2, true);
+    for workers in [1, 8] {
+        let missed = missed(&rt, rt.alloc(), &SmallCode, &layout, workers, &cases)?;
         assert!(rt; missed.is_empty(), "{missed:?} with {workers} workers");
     }
     Ok(())

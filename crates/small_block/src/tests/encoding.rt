@@ -2,13 +2,15 @@
 
 ghost use Rattle.std.specs.Prelude.{◌≤◌};
 ghost use Rattle.stream_codec.specs.Layouts.{Fits};
+ghost use Rattle.stream_codec.specs.declared.limits.TheConstants.{MOST_BYTES};
 
 use crate::SmallCode;
+use ag_frame::Layout;
 use ag_io::{MemSink, MemSource, Sink, Source};
 use coded_block::BlockCode;
 use std::alloc::Global;
 use std::test::Fail;
-use stream_codec::{EncodeCounts, EncodeFault, EncodeRoom, encode_stream};
+use stream_codec::{EncodeCounts, EncodeFault, EncodeRoom, encode_stream, layout_of};
 
 // A file, the calls of its source and of the sink that fail, and what encoding it has to answer and to write.
 #[derive(Drop)]
@@ -30,7 +32,7 @@ fn encode<C: BlockCode, I: Source, O: Sink>(
     limit: u64,
 ) -> Result<EncodeCounts, EncodeFault>
     requires fits { Fits room.old (C.form code.now) }
-    requires limit { limit ≤ 1099511627776 }
+    requires limit { limit ≤ MOST_BYTES }
     ensures { Fits room.new (C.form code.now) }
 {
     encode_stream(code, room, src, out, limit)
@@ -53,18 +55,17 @@ fn is_met<C: BlockCode>(
     Ok(answer == case.answer && out.bytes() == case.image)
 }
 
-// Which cases are not met, one after the other in one room of groups of so many codewords.
+// Which cases are not met, one after the other in one room of groups of this layout.
 fn missed<C: BlockCode>(
     alloc: Global,
     code: &C,
-    depth: u32,
+    layout: &Layout,
     cases: &[Case],
 ) -> Result<Vec<usize>, Fail>
-    requires least { 1 ≤ depth }
-    requires most { depth ≤ 64 }
+    requires { Fits layout.now (C.form code.now) }
 {
     let mut missed = Vec::new(alloc);
-    let mut room = EncodeRoom::new(alloc, code, depth)?;
+    let mut room = EncodeRoom::new(alloc, code, layout)?;
     for (index, case) in cases.iter().enumerate() {
         if !is_met(alloc, code, &mut room, case)? {
             missed.push(index)?;
@@ -102,7 +103,12 @@ fn files_are_stored(rt: HostRuntime) -> Result<(), Fail> {
         stored(&[0x41], 2, &ONE),
         stored(&[0, 0, 0], 5, &zeros),
     ];
-    let missed = missed(rt.alloc(), &SmallCode, 1, &cases)?;
+    let missed = missed(
+        rt.alloc(),
+        &SmallCode,
+        &layout_of(&SmallCode, 1, false),
+        &cases,
+    )?;
     assert!(rt; missed.is_empty(), "{missed:?}");
     Ok(())
 }
@@ -128,7 +134,12 @@ fn encoding_says_why_it_stops(rt: HostRuntime) -> Result<(), Fail> {
         },
         stored(&[], 1, &EMPTY),
     ];
-    let missed = missed(rt.alloc(), &SmallCode, 1, &cases)?;
+    let missed = missed(
+        rt.alloc(),
+        &SmallCode,
+        &layout_of(&SmallCode, 1, false),
+        &cases,
+    )?;
     assert!(rt; missed.is_empty(), "{missed:?}");
     Ok(())
 }
@@ -136,7 +147,25 @@ fn encoding_says_why_it_stops(rt: HostRuntime) -> Result<(), Fail> {
 #[test]
 fn a_group_of_two_is_stored(rt: HostRuntime) -> Result<(), Fail> {
     let cases = [stored(&[], 1, &[2, 0, 0, 0, 0, 0, 2, 0, 3, 0, 1, 0, 2, 0, 0, 0])];
-    let missed = missed(rt.alloc(), &SmallCode, 2, &cases)?;
+    let missed = missed(
+        rt.alloc(),
+        &SmallCode,
+        &layout_of(&SmallCode, 2, false),
+        &cases,
+    )?;
+    assert!(rt; missed.is_empty(), "{missed:?}");
+    Ok(())
+}
+
+// Two bits for each symbol of the images above.
+#[test]
+fn files_are_stored_packed(rt: HostRuntime) -> Result<(), Fail> {
+    let cases = [
+        stored(&[], 1, &[0x82, 0xd8]),
+        stored(&[0x41], 2, &[0x41, 0xb4, 0x63, 0x33]),
+    ];
+    let layout = layout_of(&SmallCode, 1, true);
+    let missed = missed(rt.alloc(), &SmallCode, &layout, &cases)?;
     assert!(rt; missed.is_empty(), "{missed:?}");
     Ok(())
 }
