@@ -2,10 +2,6 @@
 //! ledgers are compared with those that were worked by hand, and its decoder with a search through all words.
 #![tactic(auto)]
 
-mod points;
-
-pub use points::are_points;
-
 #[cfg(test)]
 mod rig;
 #[cfg(test)]

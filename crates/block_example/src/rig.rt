@@ -4,12 +4,12 @@
 ghost use Rattle.std.specs.Prelude.{◌≡◌, ◌<◌, ◌≤◌, ◌^◌, ◌↔◌, All, IsTrue, length};
 ghost use Rattle.block_code.specs.Compiled.{numbers_of};
 
-use super::are_points;
+use ag_pool::Workers;
 use block_code::{Bench, BlockCode, Code, CompileFault, Verdict, VoteLine};
 use cab_curve::{CabDomain, Curve, Point, Term};
 use eval_basis::CheckRule;
 use gf_field::{Field, PolyField};
-use order_domain::OrderDomain;
+use order_domain::{OrderDomain, Points};
 use std::alloc::Global;
 use std::thread::Threads;
 
@@ -40,37 +40,42 @@ pub fn points() -> [Point; 8] {
     ]
 }
 
+// A list of these points, where no two of them are the same.
+fn list(alloc: Global, points: &[Point]) -> Option<Points> {
+    let mut items = Vec::new(alloc);
+    for p in points {
+        items.push(*p).ok()?;
+    }
+    Points::of(items)
+}
+
 // What compiling a code at these points answers, where they are points of the domain.
 fn compiled_on<X: Threads + Sync, F: Field + Sync, D: OrderDomain>(
     rt: &X,
     alloc: Global,
     f: F,
     dom: &D,
-    points: &[Point],
-    weight: u32,
+    points: &Points,
+    rule: CheckRule,
 ) -> Option<Result<Code<F>, CompileFault>> {
     if points.is_empty() {
-        return None;
-    }
-    if points.len() > 1024 {
         return None;
     }
     if f.bits() != dom.bits() {
         return None;
     }
-    if !are_points(&f, dom, points) {
+    if !points.are_on(&f, dom) {
         return None;
     }
-    let rule = CheckRule::AtMost { weight };
-    Some(Code::compile(rt, alloc, f, dom, points, rule, 1))
+    Some(Code::compile(rt, alloc, f, dom, points, rule, Workers::ONE))
 }
 
-// What compiling the code at these points answers where labels up to a weight are checked.
+// What compiling the code at these points answers.
 fn compiled<X: Threads + Sync>(
     rt: &X,
     alloc: Global,
     points: &[Point],
-    weight: u32,
+    rule: CheckRule,
 ) -> Option<Result<Code<PolyField>, CompileFault>> {
     let f = PolyField::new(2, 7)?;
     let curve = Curve::new(alloc, &f, 2, 3, &equation()).ok()?;
@@ -78,22 +83,22 @@ fn compiled<X: Threads + Sync>(
         return None;
     }
     let dom = CabDomain::new(alloc, curve, 2).ok()?;
-    compiled_on(rt, alloc, f, &dom, points, weight)
+    compiled_on(rt, alloc, f, &dom, &list(alloc, points)?, rule)
 }
 
-/// The code at these points where labels up to a weight are checked.
+/// The code at these points.
 pub fn made<X: Threads + Sync>(
     rt: &X,
     alloc: Global,
     points: &[Point],
-    weight: u32,
+    rule: CheckRule,
 ) -> Option<Code<PolyField>> {
-    compiled(rt, alloc, points, weight)?.ok()
+    compiled(rt, alloc, points, rule)?.ok()
 }
 
-/// Why there is no code at all points where labels up to a weight are checked.
-pub fn cause<X: Threads + Sync>(rt: &X, alloc: Global, weight: u32) -> Option<CompileFault> {
-    compiled(rt, alloc, &points(), weight)?.err()
+/// Why there is no code at all points.
+pub fn cause<X: Threads + Sync>(rt: &X, alloc: Global, rule: CheckRule) -> Option<CompileFault> {
+    compiled(rt, alloc, &points(), rule)?.err()
 }
 
 // A line of the votes: its label, its pairs, and the right and the wrong candidates.
@@ -107,7 +112,7 @@ pub enum Row<'a> {
     /// The message places.
     Places(&'a [u32]),
     /// The codeword of a message.
-    Encodes([u8; 3], [u8; 8]),
+    Encodes(&'a [u8], [u8; 8]),
     /// Whether a word is a codeword.
     Member([u8; 8], bool),
     /// The verdict on a block, the word that is kept, and the ledger.
@@ -133,21 +138,21 @@ fn are_symbols(msg: &[u8]) -> bool
     msg.iter().all(|s| *s < 4)
 }
 
-fn encodes<C: BlockCode>(code: &C, msg: [u8; 3], word: [u8; 8]) -> bool {
+fn encodes<C: BlockCode>(code: &C, msg: &[u8], word: [u8; 8]) -> bool {
     if code.n() != 8 {
         return false;
     }
-    if code.k() != 3 {
+    if code.k() as usize != msg.len() {
         return false;
     }
     if code.bits() != 2 {
         return false;
     }
-    if !are_symbols(&msg) {
+    if !are_symbols(msg) {
         return false;
     }
     let mut found = [0; 8];
-    code.encode_block(&msg, &mut found);
+    code.encode_block(msg, &mut found);
     found == word
 }
 
@@ -254,13 +259,13 @@ fn are_met_by<F: Field>(alloc: Global, code: &Code<F>, rows: &[Row]) -> Option<b
     Some(are_met_on(code, &mut bench, rows))
 }
 
-/// Whether all rows are met by the code at all points where labels up to a weight are checked.
+/// Whether all rows are met by the code at all points.
 pub fn are_met<X: Threads + Sync>(
     rt: &X,
     alloc: Global,
-    weight: u32,
+    rule: CheckRule,
     rows: &[Row],
 ) -> Option<bool> {
-    let code = made(rt, alloc, &points(), weight)?;
+    let code = made(rt, alloc, &points(), rule)?;
     are_met_by(alloc, &code, rows)
 }

@@ -7,6 +7,7 @@ use crate::rig::{decode, made, points};
 use block_code::{Bench, Code, Verdict};
 use cab_curve::Point;
 use error_locator::Locator;
+use eval_basis::CheckRule;
 use gf_field::Field;
 use search_decoder::near_by_search;
 use std::alloc::Global;
@@ -29,7 +30,7 @@ fn is_near<F: Field>(code: &Code<F>, got: &[u8], word: &mut [u8]) -> bool
     requires positions { length word.old ≡ code.now.basis.n }
 {
     let t = code.radius();
-    near_by_search(code.field(), code.basis(), code.checked(), t, got, word)
+    near_by_search(code.basis(), code.checked(), t, got, word)
 }
 
 // What the search says of a block, and the codeword near it, or the block itself where there is none.
@@ -155,11 +156,11 @@ fn agreed<X: Threads + Sync>(
     rt: &X,
     alloc: Global,
     points: &[Point],
-    weight: u32,
+    rule: CheckRule,
     sent: &[u8],
     radius: u32,
 ) -> Option<u32> {
-    let code = made(rt, alloc, points, weight)?;
+    let code = made(rt, alloc, points, rule)?;
     agreed_by(alloc, &code, sent, radius)
 }
 
@@ -167,20 +168,46 @@ fn agreed<X: Threads + Sync>(
 fn decodes_as_the_search_does(rt: HostRuntime) {
     let alloc = rt.alloc();
     let points = points();
-    // the points, the greatest checked label, a codeword, the radius, and how many errors there are
-    let rows: [(&[Point], u32, &[u8], u32, u32); 3] = [
+    // the points, the rule, a codeword, the radius, and how many errors there are
+    let rows: [(&[Point], CheckRule, &[u8], u32, u32); 5] = [
         (
             &points,
-            5,
+            CheckRule::AtMost { weight: 5 },
             &[2, 0, 0, 2, 3, 1, 2, 0],
             2,
             1 + 24 + 252 + 1512,
         ),
-        (&points, 0, &[2, 0, 0, 0, 0, 0, 0, 2], 0, 1 + 24),
-        (&points[..5], 3, &[2, 1, 2, 0, 1], 1, 1 + 15 + 90),
+        (
+            &points,
+            CheckRule::AtMost { weight: 0 },
+            &[2, 0, 0, 0, 0, 0, 0, 2],
+            0,
+            1 + 24,
+        ),
+        (
+            &points[..5],
+            CheckRule::AtMost { weight: 3 },
+            &[2, 1, 2, 0, 1],
+            1,
+            1 + 15 + 90,
+        ),
+        (
+            &points,
+            CheckRule::Small { pairs: 3 },
+            &[2, 0, 0, 0, 0, 1, 1, 2],
+            1,
+            1 + 24 + 252,
+        ),
+        (
+            &points,
+            CheckRule::Small { pairs: 0 },
+            &[1, 2, 3, 0, 0, 1, 2, 3],
+            0,
+            1 + 24,
+        ),
     ];
-    for (points, weight, sent, radius, count) in rows {
-        assert!(rt; agreed(&rt, alloc, points, weight, sent, radius) == Some(count));
+    for (points, rule, sent, radius, count) in rows {
+        assert!(rt; agreed(&rt, alloc, points, rule, sent, radius) == Some(count));
     }
 }
 
@@ -192,7 +219,7 @@ fn is_located<F: Field>(code: &Code<F>, locator: &mut Locator, got: &[u8], err: 
     ensures { locator.new ≡ record { bits = code.now.basis.bits; n = code.now.basis.n } }
 {
     let t = code.radius();
-    locator.locate(code.field(), code.basis(), code.checked(), t, got, err)
+    locator.locate(code.basis(), code.checked(), t, got, err)
 }
 
 // How many errors of at most one symbol on a codeword are located.
@@ -222,7 +249,7 @@ fn located_by<F: Field>(alloc: Global, code: &Code<F>, sent: [u8; 8]) -> Option<
 
 // The same by the code at all points where labels up to 5 are checked.
 fn located<X: Threads + Sync>(rt: &X, alloc: Global, sent: [u8; 8]) -> Option<u32> {
-    let code = made(rt, alloc, &points(), 5)?;
+    let code = made(rt, alloc, &points(), CheckRule::AtMost { weight: 5 })?;
     located_by(alloc, &code, sent)
 }
 

@@ -3,32 +3,67 @@
 
 use crate::rig::{Row, are_met, cause};
 use block_code::{CompileFault, Verdict};
+use eval_basis::CheckRule;
+
+fn up_to(weight: u32) -> CheckRule {
+    CheckRule::AtMost { weight }
+}
+
+fn fewer_than(pairs: u32) -> CheckRule {
+    CheckRule::Small { pairs }
+}
 
 #[test]
 fn has_its_numbers(rt: HostRuntime) {
     let rows = [Row::Numbers([8, 3, 5, 2, 5])];
-    assert!(rt; are_met(&rt, rt.alloc(), 5, &rows) == Some(true));
+    assert!(rt; are_met(&rt, rt.alloc(), up_to(5), &rows) == Some(true));
     let weak = [Row::Numbers([8, 7, 2, 0, 1])];
-    assert!(rt; are_met(&rt, rt.alloc(), 0, &weak) == Some(true));
+    assert!(rt; are_met(&rt, rt.alloc(), up_to(0), &weak) == Some(true));
 }
 
 #[test]
 fn is_none_where_all_is_checked(rt: HostRuntime) {
-    assert!(rt; cause(&rt, rt.alloc(), 9) == Some(CompileFault::NothingFree));
+    assert!(rt; cause(&rt, rt.alloc(), up_to(9)) == Some(CompileFault::NothingFree));
+    assert!(rt; cause(&rt, rt.alloc(), fewer_than(9)) == Some(CompileFault::NothingFree));
+}
+
+// Labels 0, 2 and 3 have one and two pairs, label 4 has three.
+#[test]
+fn checks_by_the_number_of_pairs(rt: HostRuntime) {
+    let rows = [
+        Row::Numbers([8, 5, 3, 1, 3]),
+        Row::Places(&[0, 1, 2, 3, 4]),
+        // the bits of the empty file: a 1, and 0s
+        Row::Encodes(&[2, 0, 0, 0, 0], [2, 0, 0, 0, 0, 1, 1, 2]),
+        Row::Member([2, 0, 0, 0, 0, 1, 1, 2], true),
+        Row::Member([2, 0, 0, 0, 0, 1, 1, 3], false),
+    ];
+    assert!(rt; are_met(&rt, rt.alloc(), fewer_than(3), &rows) == Some(true));
+}
+
+#[test]
+fn checks_nothing(rt: HostRuntime) {
+    let rows = [
+        Row::Numbers([8, 8, 1, 0, 0]),
+        Row::Places(&[0, 1, 2, 3, 4, 5, 6, 7]),
+        Row::Encodes(&[1, 2, 3, 0, 0, 1, 2, 3], [1, 2, 3, 0, 0, 1, 2, 3]),
+        Row::Member([1, 2, 3, 0, 0, 1, 2, 3], true),
+    ];
+    assert!(rt; are_met(&rt, rt.alloc(), fewer_than(0), &rows) == Some(true));
 }
 
 #[test]
 fn encodes_at_its_message_places(rt: HostRuntime) {
     let rows = [
         Row::Places(&[0, 1, 2]),
-        Row::Encodes([1, 0, 0], [1, 0, 0, 1, 2, 3, 1, 0]),
-        Row::Encodes([0, 1, 0], [0, 1, 0, 1, 1, 0, 3, 2]),
-        Row::Encodes([0, 0, 1], [0, 0, 1, 1, 2, 2, 3, 3]),
-        Row::Encodes([1, 1, 1], [1, 1, 1, 1, 1, 1, 1, 1]),
-        Row::Encodes([1, 2, 0], [1, 2, 0, 3, 0, 3, 0, 3]),
-        Row::Encodes([2, 0, 0], [2, 0, 0, 2, 3, 1, 2, 0]),
+        Row::Encodes(&[1, 0, 0], [1, 0, 0, 1, 2, 3, 1, 0]),
+        Row::Encodes(&[0, 1, 0], [0, 1, 0, 1, 1, 0, 3, 2]),
+        Row::Encodes(&[0, 0, 1], [0, 0, 1, 1, 2, 2, 3, 3]),
+        Row::Encodes(&[1, 1, 1], [1, 1, 1, 1, 1, 1, 1, 1]),
+        Row::Encodes(&[1, 2, 0], [1, 2, 0, 3, 0, 3, 0, 3]),
+        Row::Encodes(&[2, 0, 0], [2, 0, 0, 2, 3, 1, 2, 0]),
     ];
-    assert!(rt; are_met(&rt, rt.alloc(), 5, &rows) == Some(true));
+    assert!(rt; are_met(&rt, rt.alloc(), up_to(5), &rows) == Some(true));
 }
 
 #[test]
@@ -39,7 +74,7 @@ fn knows_its_codewords(rt: HostRuntime) {
         // right in its low bits, but no symbol
         Row::Member([5, 0, 0, 1, 2, 3, 1, 0], false),
     ];
-    assert!(rt; are_met(&rt, rt.alloc(), 5, &rows) == Some(true));
+    assert!(rt; are_met(&rt, rt.alloc(), up_to(5), &rows) == Some(true));
 }
 
 #[test]
@@ -57,7 +92,7 @@ fn decodes_what_is_near(rt: HostRuntime) {
         Row::Decodes([2, 0, 0, 0, 3, 1, 0xff, 0], two, sent, &none_wrong),
         Row::Decodes([6, 0, 0, 2, 3, 1, 2, 0], one, sent, &no_error),
     ];
-    assert!(rt; are_met(&rt, rt.alloc(), 5, &rows) == Some(true));
+    assert!(rt; are_met(&rt, rt.alloc(), up_to(5), &rows) == Some(true));
 }
 
 #[test]
@@ -69,7 +104,7 @@ fn refuses_what_is_beyond(rt: HostRuntime) {
         Row::Decodes(too_far, Verdict::Beyond, [2, 0, 0, 0, 3, 1, 3, 0], &[]),
         Row::Decodes(far, Verdict::Beyond, far, &[]),
     ];
-    assert!(rt; are_met(&rt, rt.alloc(), 5, &rows) == Some(true));
+    assert!(rt; are_met(&rt, rt.alloc(), up_to(5), &rows) == Some(true));
 }
 
 // The blocks of a table are decoded on one bench.
@@ -86,7 +121,7 @@ fn forgets_the_ledger_of_the_block_before(rt: HostRuntime) {
     let too_far = [6, 0, 0, 0, 3, 1, 0xff, 0];
     let beyond = Row::Decodes(too_far, Verdict::Beyond, [2, 0, 0, 0, 3, 1, 3, 0], &[]);
     let rows = [near, beyond, near];
-    assert!(rt; are_met(&rt, rt.alloc(), 5, &rows) == Some(true));
+    assert!(rt; are_met(&rt, rt.alloc(), up_to(5), &rows) == Some(true));
 }
 
 #[test]
@@ -107,7 +142,7 @@ fn corrects_nothing_at_radius_zero(rt: HostRuntime) {
         Row::Decodes(sent, Verdict::Near { changes: 0 }, sent, &no_error),
         Row::Decodes(other, Verdict::Beyond, other, &[]),
     ];
-    assert!(rt; are_met(&rt, rt.alloc(), 0, &rows) == Some(true));
+    assert!(rt; are_met(&rt, rt.alloc(), up_to(0), &rows) == Some(true));
 }
 
 #[test]
@@ -118,5 +153,5 @@ fn is_a_code_for_files(rt: HostRuntime) {
         // none is near: the low bits at the message places
         Row::Reads([6, 0, 0, 0, 3, 1, 0xff, 0], [2, 0, 0]),
     ];
-    assert!(rt; are_met(&rt, rt.alloc(), 5, &rows) == Some(true));
+    assert!(rt; are_met(&rt, rt.alloc(), up_to(5), &rows) == Some(true));
 }
