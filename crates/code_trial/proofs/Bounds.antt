@@ -13,8 +13,9 @@ use Rattle.stored_form.proofs.Lists.{times_mod}
 use Rattle.stored_form.proofs.FrameLemmas.{group_bits_above_0, group_bytes_above_0, file_groups}
 use Rattle.stored_form.proofs.ImageLemmas.{length-image}
 use Rattle.stored_form.proofs.Theorems.{beyond_law, out_law}
-use Rattle.coded_block.specs.Codes.{at_depth}
-use Rattle.stream_codec.specs.Layouts.{Fits}
+use Rattle.stream_codec.specs.Layouts.{Fits, in_groups}
+use Rattle.stream_codec.proofs.FitLemmas.{fits_sound, fits_bits, bytes_small}
+use Rattle.stream_codec.proofs.WindowGroups.{group_size}
 use Rattle.stream_codec.specs.Report.{sure_bytes}
 
 -- ---- numbers
@@ -27,17 +28,17 @@ div_up a b k some l = elim (cases_lt (b / k) (a / k)) [
 ]
 
 -- ---- groups
-pub sound_at : (l : Layout) (F : Form) → Fits l F → IsSound (at_depth l.depth F)
-sound_at l F fits = fits.code.sound l.depth (omega (arith, fits.layout.depth_least))
+pub sound_at : (l : Layout) (F : Form) → Fits l F → IsSound (in_groups l F)
+sound_at l F fits = fits_sound F l fits
 
-pub group_bytes_is : (l : Layout) (F : Form) → Fits l F → group_bytes (at_depth l.depth F) ≡ bytes_in_group l
-group_bytes_is l F fits = ap (λ (n : ℕ). n * l.depth) (sym fits.n)
+pub group_bytes_is : (l : Layout) (F : Form) → Fits l F → group_bytes (in_groups l F) ≡ bytes_in_group l
+group_bytes_is l F fits = sym (group_size l F fits)
 
-pub group_bits_is : (l : Layout) (F : Form) → Fits l F → group_bits (at_depth l.depth F) ≡ bits_in_group l
-group_bits_is l F fits = ap₂ (λ (k bits : ℕ). l.depth * k * bits) (sym fits.k) (sym fits.bits)
+pub group_bits_is : (l : Layout) (F : Form) → Fits l F → group_bits (in_groups l F) ≡ bits_in_group l
+group_bits_is l F fits = sym (fits_bits F l fits)
 
 pub bytes_few : (l : Layout) → IsLayout l → bytes_in_group l ≤ 65536
-bytes_few l is = let m : l.n * l.depth ≤ 1024 * 64 = mul-le-mul is.n_most is.depth_most in m
+bytes_few l is = bytes_small l is
 
 pub bits_few : (l : Layout) → IsLayout l → bits_in_group l ≤ 524288
 bits_few l is =
@@ -52,19 +53,19 @@ file_fits l bytes is short =
     mul-le-mul a (bits_few l is)
 
 -- ---- images
-pub image_long : (l : Layout) (F : Form) (x : List ℕ) → Fits l F → length (image (at_depth l.depth F) x) ≡ (length x * 8 / bits_in_group l + 1) * bytes_in_group l
+pub image_long : (l : Layout) (F : Form) (x : List ℕ) → Fits l F → length (image (in_groups l F) x) ≡ (length x * 8 / bits_in_group l + 1) * bytes_in_group l
 unfolding file_groups
 image_long l F x fits =
-    length-image (at_depth l.depth F) x (sound_at l F fits)
+    length-image (in_groups l F) x (sound_at l F fits)
     ∙ ap₂ (λ (b g : ℕ). (length x * 8 / b + 1) * g) (group_bits_is l F fits) (group_bytes_is l F fits)
 
-pub image_whole : (l : Layout) (F : Form) (x : List ℕ) → Fits l F → length (image (at_depth l.depth F) x) % bytes_in_group l ≡ 0
+pub image_whole : (l : Layout) (F : Form) (x : List ℕ) → Fits l F → length (image (in_groups l F) x) % bytes_in_group l ≡ 0
 image_whole l F x fits =
-    ap (λ (n : ℕ). n % bytes_in_group l) (length-image (at_depth l.depth F) x (sound_at l F fits))
-    ∙ ap (λ (g : ℕ). file_groups (at_depth l.depth F) x * g % bytes_in_group l) (group_bytes_is l F fits)
-    ∙ times_mod (file_groups (at_depth l.depth F) x) (bytes_in_group l) (let g = group_bytes_above_0 (at_depth l.depth F) (sound_at l F fits) in let e = group_bytes_is l F fits in omega arith)
+    ap (λ (n : ℕ). n % bytes_in_group l) (length-image (in_groups l F) x (sound_at l F fits))
+    ∙ ap (λ (g : ℕ). file_groups (in_groups l F) x * g % bytes_in_group l) (group_bytes_is l F fits)
+    ∙ times_mod (file_groups (in_groups l F) x) (bytes_in_group l) (let g = group_bytes_above_0 (in_groups l F) (sound_at l F fits) in let e = group_bytes_is l F fits in omega arith)
 
-pub image_short : (l : Layout) (F : Form) (x : List ℕ) → Fits l F → length x ≤ 65536 → length (image (at_depth l.depth F) x) ≤ 1099511627776
+pub image_short : (l : Layout) (F : Form) (x : List ℕ) → Fits l F → length x ≤ 65536 → length (image (in_groups l F) x) ≤ 1099511627776
 image_short l F x fits short =
     let groups : length x * 8 / bits_in_group l + 1 ≤ 524289 = (let d = div-le_self (length x * 8) (bits_in_group l) in omega arith) in
     let most : (length x * 8 / bits_in_group l + 1) * bytes_in_group l ≤ 524289 * 65536 = mul-le-mul groups (bytes_few l fits.layout) in
@@ -105,23 +106,23 @@ sure_short F z whole sound l =
 new_sure : (sink : SinkState) (room : ℕ) (fails : List ℕ) → fails ≡ [] → sink ≡ record { given = []; room = room; fails = fails; calls = 0; faults = 0 } → sure_of sink ≡ room
 new_sure sink room fails none e = ap sure_of e ∙ ap (sure_by room) none
 
-pub image_enough : (l : Layout) (F : Form) (depth : ℕ) (file left : List ℕ) (room : ℕ) (fails : List ℕ) (sink : SinkState) → Fits l F → depth ≡ l.depth → left ≡ file →
+pub image_enough : (l : Layout) (F : Form) (room_layout : Layout) (file left : List ℕ) (room : ℕ) (fails : List ℕ) (sink : SinkState) → Fits l F → room_layout ≡ l → left ≡ file →
     room ≡ (length file * 8 / bits_in_group l + 1) * bytes_in_group l → fails ≡ [] → sink ≡ record { given = []; room = room + 1; fails = fails; calls = 0; faults = 0 } →
-    length (image (at_depth depth F) left) < sure_of sink
-image_enough l F depth file left room fails sink fits same src is none new =
-    let long : length (image (at_depth depth F) left) ≡ (length file * 8 / bits_in_group l + 1) * bytes_in_group l =
-    ap₂ (λ (d : ℕ) (x : List ℕ). length (image (at_depth d F) x)) same src ∙ image_long l F file fits in
+    length (image (in_groups room_layout F) left) < sure_of sink
+image_enough l F room_layout file left room fails sink fits same src is none new =
+    let long : length (image (in_groups room_layout F) left) ≡ (length file * 8 / bits_in_group l + 1) * bytes_in_group l =
+    ap₂ (λ (d : Layout) (x : List ℕ). length (image (in_groups d F) x)) same src ∙ image_long l F file fits in
     let sure : sure_of sink ≡ room + 1 = new_sure sink (room + 1) fails none new in
     omega arith
 
-pub room_enough : (l : Layout) (F : Form) (depth : ℕ) (text left : List ℕ) (room : ℕ) (fails : List ℕ) (sink : SinkState) → Fits l F → depth ≡ l.depth → left ≡ text →
+pub room_enough : (l : Layout) (F : Form) (room_layout : Layout) (text left : List ℕ) (room : ℕ) (fails : List ℕ) (sink : SinkState) → Fits l F → room_layout ≡ l → left ≡ text →
     room ≡ length text / bytes_in_group l * bits_in_group l / 8 → fails ≡ [] → sink ≡ record { given = []; room = room + 1; fails = fails; calls = 0; faults = 0 } →
-    length left / group_bytes (at_depth depth F) * group_bits (at_depth depth F) / 8 < sure_of sink
-room_enough l F depth text left room fails sink fits same src is none new =
-    let here : length left / group_bytes (at_depth depth F) * group_bits (at_depth depth F) / 8 ≡ length text / group_bytes (at_depth l.depth F) * group_bits (at_depth l.depth F) / 8 =
-    ap₂ (λ (d : ℕ) (x : List ℕ). length x / group_bytes (at_depth d F) * group_bits (at_depth d F) / 8) same src in
-    let sizes : length text / group_bytes (at_depth l.depth F) * group_bits (at_depth l.depth F) / 8 ≡ length text / bytes_in_group l * bits_in_group l / 8 =
+    length left / group_bytes (in_groups room_layout F) * group_bits (in_groups room_layout F) / 8 < sure_of sink
+room_enough l F room_layout text left room fails sink fits same src is none new =
+    let here : length left / group_bytes (in_groups room_layout F) * group_bits (in_groups room_layout F) / 8 ≡ length text / group_bytes (in_groups l F) * group_bits (in_groups l F) / 8 =
+    ap₂ (λ (d : Layout) (x : List ℕ). length x / group_bytes (in_groups d F) * group_bits (in_groups d F) / 8) same src in
+    let sizes : length text / group_bytes (in_groups l F) * group_bits (in_groups l F) / 8 ≡ length text / bytes_in_group l * bits_in_group l / 8 =
     ap₂ (λ (size bits : ℕ). length text / size * bits / 8) (group_bytes_is l F fits) (group_bits_is l F fits) in
-    let all : length left / group_bytes (at_depth depth F) * group_bits (at_depth depth F) / 8 ≡ room = here ∙ sizes ∙ sym is in
+    let all : length left / group_bytes (in_groups room_layout F) * group_bits (in_groups room_layout F) / 8 ≡ room = here ∙ sizes ∙ sym is in
     let sure : sure_of sink ≡ room + 1 = new_sure sink (room + 1) fails none new in
     omega arith

@@ -4,7 +4,7 @@ use Rattle.std.specs.Str.{bytes_eq}
 use Rattle.stored_form.specs.Form.{IsSound}
 use Rattle.stored_form.specs.Frame.{group_bits, group_bytes}
 use Rattle.stored_form.specs.Reading.{changes}
-use Rattle.stream_codec.specs.Giving.{GavePart}
+use Rattle.ag_io.specs.Views.{GaveFront}
 use Rattle.stream_codec.specs.Report.{sure_bytes}
 use Rattle.stream_codec.specs.Decoding.{Decode, DecodedAs}
 use Rattle.stream_codec.specs.declared.decode.DecodeCounts.{DecodeCounts}
@@ -66,7 +66,7 @@ no_out_fault d m dec =
     let (z, w) = dec.told m.source_tells in
     let e : length d.source.left ≡ length z + length d.source_after.left = ap length w.left ∙ length-append z d.source_after.left in
     let part : length d.out_after.given ≤ length (sure_bytes d.form z) =
-    part_short d.out_after.given (sure_bytes d.form z) (subst (λ (b : List ℕ). GavePart b d.out_after.given (sure_bytes d.form z)) m.given (w.out m.out_tells)) in
+    part_short d.out_after.given (sure_bytes d.form z) (subst (λ (b : List ℕ). GaveFront b d.out_after.given (sure_bytes d.form z)) m.given (w.out m.out_tells)) in
     let most = sure_short d.form z d.source.left m.sound (omega arith) in
     let enough : d.out.sure ≤ length d.out_after.given = dec.fault.1 m.out_tells in
     omega (arith, m.room)

@@ -7,11 +7,12 @@ use Rattle.ag_frame.specs.declared.frame.Layout.{Layout}
 use Rattle.ag_frame.specs.Layouts.{bytes_in_group}
 use Rattle.stored_form.specs.Form.{Form}
 use Rattle.stored_form.specs.Frame.{IsFile, image}
-use Rattle.stored_form.specs.Reading.{changes}
-use Rattle.coded_block.specs.Codes.{at_depth}
-use Rattle.stream_codec.specs.Layouts.{Fits}
+use Rattle.stored_form.specs.Reading.{blocks, changes}
+use Rattle.stream_codec.specs.Layouts.{Fits, in_groups}
 use Rattle.ag_trial.specs.Words.{drawn, after_draw, file_bytes}
-use Rattle.ag_trial.specs.Damage.{damaged_words, text_words, IsTrialRead}
+use Rattle.ag_trial.specs.Damage.{damaged_words, IsTrialRead}
+use Rattle.ag_trial.specs.Groups.{words_of_text}
+use Rattle.stream_codec.proofs.WindowGroups.{blocks_is}
 use Rattle.ag_trial.proofs.Images.{trial_law}
 use Rattle.code_trial.specs.declared.back.ReadBack.{ReadBack}
 use Rattle.ag_trial.specs.Damage.{changes_in}
@@ -40,30 +41,34 @@ length-file_bytes (suc n) g = ap suc (length-file_bytes n (after_draw g))
 
 -- the most changes of a codeword are no more than its symbols
 pub few_changes : (l : Layout) (F : Form) (t : ℕ) → Fits l F → t ≤ F.radius → t ≤ l.n
-few_changes l F t fits radius = let r = radius_within (at_depth l.depth F) (sound_at l F fits) in let e = fits.n in omega arith
+few_changes l F t fits radius = let r = radius_within (in_groups l F) (sound_at l F fits) in let e = fits.n in omega arith
 
 pub bytes_same : (x : List ℕ) → bytes_eq x x ≡ true
 bytes_same x = (bytes_eq-Decides x x).1 refl
 
 module _ (l : Layout) (F : Form) (t : ℕ) (x z : List ℕ) (g : Lcg) (fits : Fits l F) (file : IsFile x) (radius : t ≤ F.radius)
-    (long : length z ≡ length (image (at_depth l.depth F) x))
-    (words : text_words l.n l.depth z ≡ (damaged_words (2 ^ l.bits) t (text_words l.n l.depth (image (at_depth l.depth F) x)) g).0) where
-  damaged_read : IsTrialRead (at_depth l.depth F) t x z g
+    (long : length z ≡ length (image (in_groups l F) x))
+    (words : words_of_text l z ≡ (damaged_words (2 ^ l.bits) t (words_of_text l (image (in_groups l F) x)) g).0) where
+  in_blocks : (y : List ℕ) → words_of_text l y ≡ blocks (in_groups l F) y
+  in_blocks y = blocks_is l F y fits
+
+  damaged_read : IsTrialRead (in_groups l F) t x z g
   damaged_read =
       let few = few_changes l F t fits radius in
-      let same = rw (fits.n, fits.bits) at words in
-      trial_law (at_depth l.depth F) t x z g (sound_at l F fits) file radius (let e = fits.n in omega arith) long same
+      let same : blocks (in_groups l F) z ≡ (damaged_words (2 ^ F.bits) t (blocks (in_groups l F) (image (in_groups l F) x)) g).0 =
+      sym (in_blocks z) ∙ words ∙ ap₂ (λ (b : ℕ) (ws : List (List ℕ)). (damaged_words (2 ^ b) t ws g).0) fits.bits (in_blocks (image (in_groups l F) x)) in
+      trial_law (in_groups l F) t x z g (sound_at l F fits) file radius (let e = fits.n in omega arith) long same
 
   pub outcome_found : (codewords changed : ℕ) (back : ReadBack) → codewords ≡ length z / bytes_in_group l * l.depth →
-      changed ≡ changes_in (2 ^ l.bits) t (text_words l.n l.depth (image (at_depth l.depth F) x)) g → back ≡ read_back (at_depth l.depth F) z x →
-      record { codewords = codewords; changed = changed; corrected = back.corrected; equal = back.equal } ≡ outcome_for (at_depth l.depth F) t x g
+      changed ≡ changes_in (2 ^ l.bits) t (words_of_text l (image (in_groups l F) x)) g → back ≡ read_back (in_groups l F) z x →
+      record { codewords = codewords; changed = changed; corrected = back.corrected; equal = back.equal } ≡ outcome_for (in_groups l F) t x g
   outcome_found codewords changed back count drawn found =
-      let read : back ≡ record { corrected = length (changes (at_depth l.depth F) z); equal = bytes_eq x x } =
-      found ∙ ap (read_back_by (at_depth l.depth F) z x) damaged_read.read_as in
-      let codewords_is : codewords ≡ codewords_of (at_depth l.depth F) x =
+      let read : back ≡ record { corrected = length (changes (in_groups l F) z); equal = bytes_eq x x } =
+      found ∙ ap (read_back_by (in_groups l F) z x) damaged_read.read_as in
+      let codewords_is : codewords ≡ codewords_of (in_groups l F) x =
       count ∙ ap₂ (λ (n size : ℕ). n / size * l.depth) long (sym (group_bytes_is l F fits)) in
-      let changed_is : changed ≡ changes_drawn (at_depth l.depth F) t x g =
-      drawn ∙ ap₂ (λ (n bits : ℕ). changes_in (2 ^ bits) t (text_words n l.depth (image (at_depth l.depth F) x)) g) fits.n fits.bits in
-      let corrected_is : back.corrected ≡ changes_drawn (at_depth l.depth F) t x g = ap (λ (r : ReadBack). r.corrected) read ∙ damaged_read.counted in
+      let changed_is : changed ≡ changes_drawn (in_groups l F) t x g =
+      drawn ∙ ap₂ (λ (b : ℕ) (ws : List (List ℕ)). changes_in (2 ^ b) t ws g) fits.bits (in_blocks (image (in_groups l F) x)) in
+      let corrected_is : back.corrected ≡ changes_drawn (in_groups l F) t x g = ap (λ (r : ReadBack). r.corrected) read ∙ damaged_read.counted in
       let equal_is : back.equal ≡ true = ap (λ (r : ReadBack). r.equal) read ∙ bytes_same x in
       λ i. record { codewords = codewords_is i; changed = changed_is i; corrected = corrected_is i; equal = equal_is i }

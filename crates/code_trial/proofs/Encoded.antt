@@ -3,7 +3,7 @@ use Rattle.std.proofs.Common.{ℕ, ◌+◌, ◌<◌, ◌≤◌, ◌≡◌, IsTru
 use Rattle.ag_io.specs.Counts.{Rose}
 use Rattle.stored_form.specs.Form.{IsSound}
 use Rattle.stored_form.specs.Frame.{image}
-use Rattle.stream_codec.specs.Giving.{GavePart}
+use Rattle.ag_io.specs.Views.{GaveFront}
 use Rattle.stream_codec.specs.Encoded.{Encode, EncodedAs}
 use Rattle.stream_codec.specs.declared.encode.EncodeFault.{EncodeFault}
 use Rattle.stream_codec.specs.declared.encode.EncodeFault.TheVariants.{InputFault, OutFault, TooLong}
@@ -15,10 +15,10 @@ never_rose (inl l) = omega arith
 never_rose (inr e) = omega arith
 
 -- what was given of some bytes, from nothing, is no longer than they
-pub part_short : (given whole : List ℕ) → GavePart [] given whole → length given ≤ length whole
-part_short given whole (rest, gave) =
-    let a : length given ≡ length gave.done = ap length gave.after_is in
-    let b : length whole ≡ length gave.done + length rest = ap length gave.whole_is ∙ length-append gave.done rest in
+pub part_short : (given whole : List ℕ) → GaveFront [] given whole → length given ≤ length whole
+part_short given whole gave =
+    let a : length given ≡ length gave.front = ap length gave.after_is in
+    let b : length whole ≡ length gave.front + length gave.rest = ap length gave.bytes_are ∙ length-append gave.front gave.rest in
     omega arith
 
 -- a call over memory: nothing was given before, the source does not fail, and there is room for the image
@@ -42,7 +42,7 @@ encode_sure e OutFault enc m =
     let (x, w) = enc.told m.source_tells in
     let parts : length e.source.left ≡ length x + length e.source_after.left = ap length w.left ∙ length-append x e.source_after.left in
     let part : length e.out_after.given ≤ length (image e.form x) =
-    part_short e.out_after.given (image e.form x) (subst (λ (b : List ℕ). GavePart b e.out_after.given (image e.form x)) m.given (w.out m.out_tells)) in
+    part_short e.out_after.given (image e.form x) (subst (λ (b : List ℕ). GaveFront b e.out_after.given (image e.form x)) m.given (w.out m.out_tells)) in
     let front : length (image e.form x) ≤ length (image e.form e.source.left) = image_front e.form x e.source.left m.sound (omega arith) in
     let enough : e.out.sure ≤ length e.out_after.given = enc.fault.1 m.out_tells in
     omega (arith, m.room)

@@ -10,10 +10,10 @@ use Rattle.std.specs.Str.{bytes_eq}
 use Rattle.rand_pcg.specs.Lcg.{Lcg}
 use Rattle.stored_form.specs.Form.{Form}
 use Rattle.stored_form.specs.Frame.{image}
-use Rattle.stored_form.specs.Reading.{Reading, Beyond, Ragged, Framing, File, group_count, reading, changes}
+use Rattle.stored_form.specs.Reading.{Reading, Beyond, Ragged, Framing, File, group_count, blocks, reading, changes}
 use Rattle.ag_texts.specs.Lines.{number_line_of, plain_line_of}
 use Rattle.ag_trial.specs.Words.{trial_of, file_bytes, after_bytes}
-use Rattle.ag_trial.specs.Damage.{changes_in, text_words}
+use Rattle.ag_trial.specs.Damage.{changes_in}
 use Rattle.code_trial.specs.declared.back.ReadBack.{ReadBack}
 use Rattle.code_trial.specs.declared.outcome.Outcome.{Outcome}
 
@@ -21,7 +21,7 @@ abbrev pub codewords_of : Form → List ℕ → ℕ
 codewords_of F x = group_count F (image F x) * F.depth
 
 abbrev pub changes_drawn : Form → ℕ → List ℕ → Lcg → ℕ
-changes_drawn F t x g = changes_in (2 ^ F.bits) t (text_words F.n F.depth (image F x)) g
+changes_drawn F t x g = changes_in (2 ^ F.bits) t (blocks F (image F x)) g
 
 abbrev pub read_back_by : Form → (z x : List ℕ) → Reading → ReadBack
 read_back_by F z x (File y) = record { corrected = length (changes F z); equal = bytes_eq y x }

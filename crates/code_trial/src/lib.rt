@@ -5,8 +5,7 @@
 
 ghost use Rattle.std.specs.Prelude.{◌≡◌, ◌≤◌, length, IfOk, IsOk};
 ghost use Rattle.stored_form.specs.Frame.{IsFile, image};
-ghost use Rattle.coded_block.specs.Codes.{at_depth};
-ghost use Rattle.stream_codec.specs.Layouts.{Fits};
+ghost use Rattle.stream_codec.specs.Layouts.{Fits, in_groups};
 ghost use Rattle.ag_trial.specs.Words.{trial_of, file_bytes, after_bytes};
 ghost use Rattle.code_trial.specs.Trials.{outcome_for, trial_text_of};
 
@@ -15,7 +14,7 @@ mod image;
 mod outcome;
 
 use crate::back::read_back;
-use crate::image::{image_of, layout_of};
+use crate::image::image_of;
 use crate::outcome::{Outcome, outcome_text};
 use ag_frame::Layout;
 use ag_trial::Trial;
@@ -23,25 +22,25 @@ use coded_block::BlockCode;
 use std::alloc::{AllocError, Global};
 use std::thread::Threads;
 
-/// A trial of a code in groups of `depth` codewords, with a file of `bytes` bytes from `seed` and at most `t` changes in
+/// A trial of a code in groups of a layout, with a file of `bytes` bytes from `seed` and at most `t` changes in
 /// each codeword: the lines `bytes`, `codewords`, `changed`, `corrected` and `equal`. As many changes are corrected as were
 /// made, and the file comes back. The only error is want of memory.
 pub fn trial_text<X: Threads + Sync, C: BlockCode + Sync>(
     rt: &X,
     alloc: Global,
     code: &C,
+    layout: &Layout,
     t: u32,
-    depth: u32,
     seed: u64,
     bytes: u32,
 ) -> Result<Vec<u8>, AllocError>
+    requires fits { Fits layout.now (C.form code.now) }
     requires radius { t ≤ (C.form code.now).radius }
-    requires least { 1 ≤ depth }
-    requires most { depth ≤ 64 }
     requires short { bytes ≤ 65536 }
-    ensures { IfOk result (λ text. text.items ≡ trial_text_of (at_depth depth (C.form code.now)) t seed bytes) }
+    ensures { IfOk result
+        (λ text. text.items ≡ trial_text_of (in_groups layout.now (C.form code.now)) t seed bytes) }
 {
-    let outcome = outcome_of(rt, alloc, code, t, depth, seed, bytes)?;
+    let outcome = outcome_of(rt, alloc, code, layout, t, seed, bytes)?;
     outcome_text(alloc, bytes, &outcome)
 }
 
@@ -50,22 +49,22 @@ fn outcome_of<X: Threads + Sync, C: BlockCode + Sync>(
     rt: &X,
     alloc: Global,
     code: &C,
+    layout: &Layout,
     t: u32,
-    depth: u32,
     seed: u64,
     bytes: u32,
 ) -> Result<Outcome, AllocError>
+    requires fits { Fits layout.now (C.form code.now) }
     requires radius { t ≤ (C.form code.now).radius }
-    requires least { 1 ≤ depth }
-    requires most { depth ≤ 64 }
     requires short { bytes ≤ 65536 }
-    ensures { IfOk result (λ outcome. outcome ≡ outcome_for (at_depth depth (C.form code.now)) t (file_bytes bytes (trial_of seed)) (after_bytes bytes (trial_of seed))) }
+    ensures { IfOk result (λ outcome. outcome
+        ≡ outcome_for (in_groups layout.now (C.form code.now)) t
+        (file_bytes bytes (trial_of seed)) (after_bytes bytes (trial_of seed))) }
 {
-    let layout = layout_of(code, depth);
     let mut trial = Trial::new(seed);
     let file = file_of(alloc, &mut trial, bytes)?;
-    let mut text = image_of(alloc, code, &layout, &file)?;
-    damage_and_decode(rt, alloc, code, &layout, t, &mut trial, &file, &mut text)
+    let mut text = image_of(alloc, code, layout, &file)?;
+    damage_and_decode(rt, alloc, code, layout, t, &mut trial, &file, &mut text)
 }
 
 // The next bytes of a generator, as a file.
@@ -93,8 +92,9 @@ fn damage_and_decode<X: Threads + Sync, C: BlockCode + Sync>(
     requires radius { t ≤ (C.form code.now).radius }
     requires file { IsFile file.now }
     requires short { length file.now ≤ 65536 }
-    requires image { text.old ≡ image (at_depth layout.now.depth (C.form code.now)) file.now }
-    ensures { IfOk result (λ outcome. outcome ≡ outcome_for (at_depth layout.now.depth (C.form code.now)) t file.now trial.old) }
+    requires image { text.old ≡ image (in_groups layout.now (C.form code.now)) file.now }
+    ensures { IfOk result (λ outcome. outcome
+        ≡ outcome_for (in_groups layout.now (C.form code.now)) t file.now trial.old) }
 {
     let changed = trial.damage_text(layout, t, text);
     let back = read_back(rt, alloc, code, layout, text, file)?;

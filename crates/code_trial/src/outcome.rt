@@ -7,7 +7,7 @@ ghost use Rattle.code_trial.specs.Trials.{outcome_lines};
 use ag_texts::{LineBuf, number_line, plain_line};
 use std::alloc::{AllocError, Global};
 
-/// What a trial found: the codewords of the image, the bytes that were changed, the changes that decoding reported, and
+/// What a trial found: the codewords of the image, the stored symbols that were changed, the changes that decoding reported, and
 /// whether the file came back.
 #[derive(Clone, Copy)]
 pub struct Outcome {

@@ -2,7 +2,7 @@ use Rattle.std.proofs.Common.{ap, ap₂, refl, sym, ◌∙◌, arith, ℕ, List,
 use Rattle.ag_io.specs.Memory.{SinkState}
 use Rattle.ag_frame.specs.declared.frame.Layout.{Layout}
 use Rattle.stored_form.specs.Form.{Form}
-use Rattle.coded_block.specs.Codes.{at_depth}
+use Rattle.stream_codec.specs.Layouts.{in_groups}
 use Rattle.code_trial.specs.Trials.{read_back}
 use Rattle.code_trial.proofs.Bounds.{file_fits, sound_at, room_enough}
 use Rattle.code_trial.proofs.Decoded.{back_refused}
@@ -26,7 +26,7 @@ returns g c =
       report_before = refl;
       report_after = refl;
       short = omega (arith, ap (λ (xs : List ℕ). length xs) c.new-src.ensures, c.requires.short);
-      room = room_enough l F room.depth c.args.text.now c.new-src.result.rest.now c.file_room.result c.new-2.result.items c.in_ok-out.out c.requires.fits
-          c.in_ok-room.ensures.depth c.new-src.ensures c.file_room.ensures c.new-2.ensures.items c.in_ok-out.ensures;
+      room = room_enough l F room c.args.text.now c.new-src.result.rest.now c.file_room.result c.new-2.result.items c.in_ok-out.out c.requires.fits
+          c.in_ok-room.ensures.layout c.new-src.ensures c.file_room.ensures c.new-2.ensures.items c.in_ok-out.ensures;
     }))
-    ∙ ap₂ (λ (d : ℕ) (z : List ℕ). read_back (at_depth d F) z c.args.file.now) c.in_ok-room.ensures.depth c.new-src.ensures
+    ∙ ap₂ (λ (d : Layout) (z : List ℕ). read_back (in_groups d F) z c.args.file.now) c.in_ok-room.ensures.layout c.new-src.ensures
