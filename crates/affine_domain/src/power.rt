@@ -1,0 +1,44 @@
+//! Monomials at a point.
+
+ghost use Rattle.std.specs.Prelude.{◌≡◌, ℕ, ◌<◌, ◌^◌};
+ghost use Rattle.gf_theory.specs.Field.{gf_mul};
+ghost use Rattle.curve_theory.specs.Curve.{power};
+ghost use Rattle.theory_affine.specs.Separation.{monomial_value};
+ghost use Rattle.affine_domain.specs.Space.{exponents};
+
+use crate::Point;
+use gf_field::Field;
+
+// `x` to the power `k`, by squares.
+fn power<F: Field>(f: &F, x: u8, k: u32) -> u8
+    requires { x < 2 ^ F.bits_of f.now }
+    ensures power { result ≡ power (gf_mul (F.bits_of f.now) (F.modulus_of f.now)) x k }
+    ensures symbol { result < 2 ^ F.bits_of f.now }
+{
+    // a symbol has two bits at least
+    f.bits();
+    let mut product = 1;
+    let mut square = x;
+    let mut rest = k;
+    while rest > 0 {
+        if rest % 2 == 1 {
+            product = f.mul(product, square);
+        }
+        square = f.mul(square, square);
+        rest /= 2;
+    }
+    product
+}
+
+/// The value of `x^i·y^j·z^k` at p, whose coordinates are symbols.
+pub fn monomial<F: Field>(f: &F, i: u32, j: u32, k: u32, p: &Point) -> u8
+    requires x { p.now.x < 2 ^ F.bits_of f.now }
+    requires y { p.now.y < 2 ^ F.bits_of f.now }
+    requires z { p.now.z < 2 ^ F.bits_of f.now }
+    ensures value { result
+        ≡ monomial_value (gf_mul (F.bits_of f.now) (F.modulus_of f.now)) (exponents i j k)
+        p.now.x p.now.y p.now.z }
+    ensures symbol { result < 2 ^ F.bits_of f.now }
+{
+    f.mul(f.mul(power(f, p.x, i), power(f, p.y, j)), power(f, p.z, k))
+}
