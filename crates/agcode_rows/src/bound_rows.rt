@@ -9,7 +9,8 @@ use std::alloc::Global;
 use std::test::Fail;
 use std::thread::Threads;
 
-const TABLE: &str = "agcode-bound 1
+/// The table of the first code.
+pub const TABLE: &str = "agcode-bound 1
 n 8 checked 5 bound 5
 label 0 1 c 1 0 0 0 0 0 0 0
 label 2 2 c 0 0 3 2 2 1 1 3

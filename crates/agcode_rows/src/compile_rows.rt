@@ -1,8 +1,7 @@
 //! That the number of workers changes nothing of a code.
 
-ghost use Rattle.std.specs.Prelude.{◌≤◌};
-
 use crate::descriptors::{CURVE_8, HERMITIAN_16, HERMITIAN_64, with_all_points};
+use ag_pool::Workers;
 use code_descriptor::read;
 use descriptor_code::DescribedCode;
 use std::alloc::Global;
@@ -10,16 +9,19 @@ use std::test::Fail;
 use std::thread::Threads;
 
 // n, k, the number of checks, the bound and t of the code that so many workers compile.
-fn numbers<X: Threads + Sync>(rt: &X, alloc: Global, desc: &str, workers: u32) -> Option<[u32; 5]>
-    requires some_workers { 1 ≤ workers }
-    requires few_workers { workers ≤ 64 }
-{
+fn numbers<X: Threads + Sync>(
+    rt: &X,
+    alloc: Global,
+    desc: &str,
+    workers: u32,
+) -> Option<[u32; 5]> {
+    let workers = Workers::new(workers)?;
     let descriptor = read(alloc, desc.as_bytes()).ok()?;
-    if descriptor.points.is_empty() {
+    if descriptor.points().is_empty() {
         return None;
     }
     let made = DescribedCode::compile(rt, alloc, descriptor, workers).ok()?;
-    let code = &made.code;
+    let code = made.code();
     let checks = code.checked().size();
     Some([code.n(), code.k(), checks, code.bound(), code.radius()])
 }

@@ -19,9 +19,13 @@ mod fault_rows;
 #[cfg(test)]
 mod gate;
 #[cfg(test)]
+mod improved_rows;
+#[cfg(test)]
 mod large_rows;
 #[cfg(test)]
 mod member_rows;
+#[cfg(test)]
+mod packed_rows;
 #[cfg(test)]
 mod rig;
 #[cfg(test)]

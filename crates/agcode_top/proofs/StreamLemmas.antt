@@ -1,7 +1,9 @@
 -- From what the streams answer to how encode and decode end
-use Rattle.std.proofs.Common.{◌≡◌, ℕ, ◌∙◌, ap, subst, refl, Result, Ok, Err, Bool, true, false}
-use Rattle.stored_form.specs.Form.{Form}
-use Rattle.coded_block.specs.Codes.{at_depth}
+use Rattle.std.proofs.Common.{◌≡◌, ℕ, ◌∙◌, ap, ap₂, arith, subst, refl, Result, Ok, Err, Bool, true, false}
+use Rattle.stored_form.specs.Form.{Form, IsSound, at_layout}
+use Rattle.ag_frame.specs.declared.frame.Layout.{Layout}
+use Rattle.stream_codec.specs.Layouts.{Fits, in_groups}
+use Rattle.block_code.specs.Compiled.{Compiled, form_in}
 use Rattle.stream_codec.specs.declared.encode.EncodeCounts.{EncodeCounts}
 use Rattle.stream_codec.specs.declared.encode.EncodeFault.{EncodeFault}
 use Rattle.stream_codec.specs.declared.decode.DecodeCounts.{DecodeCounts}
@@ -10,46 +12,43 @@ use Rattle.stream_codec.specs.declared.encode.EncodeFault.TheVariants as encodin
 use Rattle.stream_codec.specs.declared.decode.DecodeFault.TheVariants as decoding
 use Rattle.stream_codec.specs.Encoded.{EncodedAs, EncodesAll}
 use Rattle.stream_codec.specs.Decoding.{DecodedAs, IsComplete}
-use Rattle.block_code.specs.Compiled.{form_in}
-use Rattle.code_descriptor.specs.Meaning.{Parts}
-use Rattle.descriptor_code.specs.Codes.{IsDescribed, form_of_parts}
-use Rattle.descriptor_code.specs.declared.DescribedCode.{DescribedCode}
+use Rattle.code_descriptor.specs.Parts.{Parts, IsDescriptor}
+use Rattle.descriptor_code.specs.Plain.{plain_form}
+use Rattle.descriptor_code.specs.PlainLaws.{IsPlain}
 use Rattle.agcode_top.specs.declared.status.Status.{Status}
 use Rattle.agcode_top.specs.declared.status.Status.TheVariants.{Done, NotCodeword, Beyond, Ragged, Framing, TableRefused, WordLength, Usage, Descriptor, TooLong, DescFault, InputFault, OutFault, ReportFault, NoMemory}
-use Rattle.agcode_top.specs.Flows.{Flow}
-use Rattle.agcode_top.specs.Runs.{EncodeDid, DecodeDid}
-use Rattle.agcode_top.specs.Streams.{Sureness, encode_status, decode_status, encode_of, decode_of, Encoded, Decoded}
+use Rattle.agcode_top.specs.Calls.{SourceCall, SinkCall}
+use Rattle.agcode_top.specs.Leaves.{EncodeLeaves, DecodeLeaves}
+use Rattle.agcode_top.specs.Streams.{encode_status, decode_status, encode_of, decode_of, Encoded, Decoded}
 
-same_form : (p : Parts) (s : DescribedCode) (depth : ℕ) → IsDescribed p s → depth ≡ s.depth → at_depth depth (form_in s.code) ≡ form_of_parts p s.code
-same_form p s depth d e = ap (λ (k : ℕ). at_depth k (form_in s.code)) (e ∙ d.depth)
+-- the form of a built code in the groups of a descriptor
+pub same-form : (p : Parts) (c : Compiled) (l r : Layout) → IsPlain p c → r ≡ l → l.depth ≡ p.depth → l.packed ≡ p.packed → in_groups r (form_in c) ≡ plain_form p
+same-form p c l r plain e d b =
+    ap (λ (x : Layout). in_groups x (form_in c)) e
+    ∙ ap₂ (λ (depth : ℕ) (packed : Bool). at_layout depth packed (form_in c)) d b
+    ∙ plain.form_is
 
-pub encoded : (p : Parts) (s : DescribedCode) (depth : ℕ) (input out : Flow) (sure : Sureness) (answer : Result EncodeCounts EncodeFault) (status : Status) → IsDescribed p s → depth ≡ s.depth →
-    status ≡ encode_status answer → EncodedAs (encode_of (at_depth depth (form_in s.code)) input out sure) answer → EncodesAll (encode_of (at_depth depth (form_in s.code)) input out sure) answer →
-    Encoded p input out status
-encoded p s depth input out sure answer status d e is h k = record {
-  plain = d.plain;
-  code = s.code;
-  is_code = d.code;
+pub sound-form : (p : Parts) (c : Compiled) (l : Layout) → IsDescriptor p → Fits l (form_in c) → l.depth ≡ p.depth → IsSound (in_groups l (form_in c))
+sound-form p c l d fits e = fits.code.sound l.depth l.packed (omega (arith, e, d.depth_least))
+
+-- a call with the form of a code is one with the form that the descriptor describes
+pub encoded : (p : Parts) (F : Form) (input : SourceCall) (out : SinkCall) (answer : Result EncodeCounts EncodeFault) (status : Status) → F ≡ plain_form p →
+    status ≡ encode_status answer → EncodedAs (encode_of F input out) answer → EncodesAll (encode_of F input out) answer → Encoded p input out status
+encoded p F input out answer status same is h k = record {
   answer = answer;
   status_is = is;
-  out_sure = sure;
-  encoded = subst (λ (F : Form). EncodedAs (encode_of F input out sure) answer) (same_form p s depth d e) h;
-  complete = subst (λ (F : Form). EncodesAll (encode_of F input out sure) answer) (same_form p s depth d e) k;
+  encoded = subst (λ (G : Form). EncodedAs (encode_of G input out) answer) same h;
+  complete = subst (λ (G : Form). EncodesAll (encode_of G input out) answer) same k;
 }
 
-pub decoded : (p : Parts) (s : DescribedCode) (depth : ℕ) (input out report : Flow) (out_sure report_sure : Sureness) (answer : Result DecodeCounts DecodeFault) (status : Status) → IsDescribed p s → depth ≡ s.depth →
-    status ≡ decode_status answer → DecodedAs (decode_of (at_depth depth (form_in s.code)) input out out_sure report report_sure) answer →
-    IsComplete (decode_of (at_depth depth (form_in s.code)) input out out_sure report report_sure) answer → Decoded p input out report status
-decoded p s depth input out report out_sure report_sure answer status d e is h k = record {
-  plain = d.plain;
-  code = s.code;
-  is_code = d.code;
+pub decoded : (p : Parts) (F : Form) (input : SourceCall) (out report : SinkCall) (answer : Result DecodeCounts DecodeFault) (status : Status) → F ≡ plain_form p → IsSound F →
+    status ≡ decode_status answer → DecodedAs (decode_of F input out report) answer → IsComplete (decode_of F input out report) answer → Decoded p input out report status
+decoded p F input out report answer status same sound is h k = record {
+  sound = subst (λ (G : Form). IsSound G) same sound;
   answer = answer;
   status_is = is;
-  out_sure = out_sure;
-  report_sure = report_sure;
-  decoded = subst (λ (F : Form). DecodedAs (decode_of F input out out_sure report report_sure) answer) (same_form p s depth d e) h;
-  complete = subst (λ (F : Form). IsComplete (decode_of F input out out_sure report report_sure) answer) (same_form p s depth d e) k;
+  decoded = subst (λ (G : Form). DecodedAs (decode_of G input out report) answer) same h;
+  complete = subst (λ (G : Form). IsComplete (decode_of G input out report) answer) same k;
 }
 
 -- no answer of a stream is want of memory
@@ -92,36 +91,36 @@ not_wanting : (other : Status) → NoMemory ≡ other → is_wanting other ≡ f
 unfolding is_wanting
 not_wanting other e h = let k : true ≡ false = ap is_wanting e ∙ h in let z : ⊥ = cc in z
 
-pub encode-did : (p : Parts) (input out : Flow) (status : Status) → Encoded p input out status → EncodeDid p input out status
-encode-did p input out Done h = h
-encode-did p input out NotCodeword h = h
-encode-did p input out (Beyond group word) h = h
-encode-did p input out (Ragged extra) h = h
-encode-did p input out Framing h = h
-encode-did p input out (TableRefused line) h = h
-encode-did p input out (WordLength taken) h = h
-encode-did p input out Usage h = h
-encode-did p input out (Descriptor cause) h = h
-encode-did p input out (TooLong taken) h = h
-encode-did p input out DescFault h = h
-encode-did p input out InputFault h = h
-encode-did p input out OutFault h = h
-encode-did p input out ReportFault h = h
-encode-did p input out NoMemory h = absurd (not_wanting (encode_status h.answer) h.status_is (encode_has h.answer))
+pub encode-leaves : (p : Parts) (input : SourceCall) (out : SinkCall) (status : Status) → Encoded p input out status → EncodeLeaves p input out status
+encode-leaves p input out Done h = h
+encode-leaves p input out NotCodeword h = h
+encode-leaves p input out (Beyond group word) h = h
+encode-leaves p input out (Ragged extra) h = h
+encode-leaves p input out Framing h = h
+encode-leaves p input out (TableRefused line) h = h
+encode-leaves p input out (WordLength taken) h = h
+encode-leaves p input out Usage h = h
+encode-leaves p input out (Descriptor cause) h = h
+encode-leaves p input out (TooLong taken) h = h
+encode-leaves p input out DescFault h = h
+encode-leaves p input out InputFault h = h
+encode-leaves p input out OutFault h = h
+encode-leaves p input out ReportFault h = h
+encode-leaves p input out NoMemory h = absurd (not_wanting (encode_status h.answer) h.status_is (encode_has h.answer))
 
-pub decode-did : (p : Parts) (input out report : Flow) (status : Status) → Decoded p input out report status → DecodeDid p input out report status
-decode-did p input out report Done h = h
-decode-did p input out report NotCodeword h = h
-decode-did p input out report (Beyond group word) h = h
-decode-did p input out report (Ragged extra) h = h
-decode-did p input out report Framing h = h
-decode-did p input out report (TableRefused line) h = h
-decode-did p input out report (WordLength taken) h = h
-decode-did p input out report Usage h = h
-decode-did p input out report (Descriptor cause) h = h
-decode-did p input out report (TooLong taken) h = h
-decode-did p input out report DescFault h = h
-decode-did p input out report InputFault h = h
-decode-did p input out report OutFault h = h
-decode-did p input out report ReportFault h = h
-decode-did p input out report NoMemory h = absurd (not_wanting (decode_status h.answer) h.status_is (decode_has h.answer))
+pub decode-leaves : (p : Parts) (input : SourceCall) (out report : SinkCall) (status : Status) → Decoded p input out report status → DecodeLeaves p input out report status
+decode-leaves p input out report Done h = h
+decode-leaves p input out report NotCodeword h = h
+decode-leaves p input out report (Beyond group word) h = h
+decode-leaves p input out report (Ragged extra) h = h
+decode-leaves p input out report Framing h = h
+decode-leaves p input out report (TableRefused line) h = h
+decode-leaves p input out report (WordLength taken) h = h
+decode-leaves p input out report Usage h = h
+decode-leaves p input out report (Descriptor cause) h = h
+decode-leaves p input out report (TooLong taken) h = h
+decode-leaves p input out report DescFault h = h
+decode-leaves p input out report InputFault h = h
+decode-leaves p input out report OutFault h = h
+decode-leaves p input out report ReportFault h = h
+decode-leaves p input out report NoMemory h = absurd (not_wanting (decode_status h.answer) h.status_is (decode_has h.answer))

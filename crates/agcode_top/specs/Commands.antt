@@ -1,50 +1,55 @@
--- takes_no_code      whether a command serves a curve without a code of it
+-- takes_no_code      whether a command serves a space without a code of it
 -- has_points         whether a list of points is not empty
--- IsRefused          a command refuses what a descriptor's text means, for this cause
--- IsRefusedPart      a command refuses the parts that such a text describes, for this cause
--- Accepts            a command accepts a descriptor's text, which describes these parts
+-- RefusesParts       a command refuses parts that a text describes, for this cause
+-- Refuses            a command refuses the text of a descriptor, for this cause
+-- Accepts            a command accepts the text of a descriptor, which describes these parts
 -- IsInputTold        the bytes of the input are told, where a command reads them
 -- IsNoWord           an input is longer or shorter than a word; what was taken of it
 -- HasParameters      a text is the parameters of the code of a descriptor, with the normal form of y^a
--- HasTable           a text is the table of its order bound
--- AcceptsTable       an input is that table, and a text tells its bound
+-- AcceptsTable       an input is the table of the order bound, and a text tells the bound
 -- RefusesTable       an input is not that table, and this is the first line at which a check fails
+-- IsNearWord         a codeword that differs from an input at no more positions than the radius
+-- IsFar              there is none
 -- HasVotes           a text is the ledger of the error that leads an input to the codeword near it
--- IsFar              no codeword is near an input
--- HasTrial           a text tells of a trial of the code, with the seed and the number of bytes that were asked for
--- points_text        all points of a curve, a line each
+-- points_text        all points of a space, a line each
 -- SaysMember         how member ends, with its text on out
 -- SaysCheck          the same of check
 -- SaysVotes          the same of votes
--- Says               how a command ends, with its text on out, by the words, the parts of the descriptor and the bytes of the
---                    input
+-- Says               how a command ends, with its text on out, by the words, the parts of the descriptor and the bytes
+--                    of the input
+-- GaveAnswer         a command that writes one text said its answer over a descriptor of these parts, with its text on
+--                    out
+-- GaveAnswerFront    .. or was stopped by a fault of out, after a front of that text
 -- IsNearCode         an input of n bytes that a codeword is near
 use Rattle.std.specs.Prelude.{◌≡◌, ◌≢◌, ℕ, ◌+◌, ◌<◌, ◌≤◌, min, Bool, true, false, List, [], length, codes, IsTrue}
+use Rattle.std.specs.Prelude.{◌⊎◌}
 use Rattle.std.specs.List.{flat_map}
 use Rattle.ag_texts.specs.Lines.{plain_line_of, number_line_of, point_line_of}
-use Rattle.order_theory.specs.Basis.{times}
-use Rattle.order_theory.specs.Codes.{IsOrderBound}
-use Rattle.order_theory.specs.Codes.{IsNear, low_bits, list_sum}
+use Rattle.stored_form.specs.Form.{distance}
+use Rattle.block_theory.specs.Checks.{IsInCode}
+use Rattle.order_theory.specs.Codes.{low_bits, list_sum}
 use Rattle.order_domain.specs.declared.Point.{Point}
 use Rattle.cab_curve.specs.Points.{curve_points}
-use Rattle.cab_curve.specs.NormalForms.{IsNormalOf}
 use Rattle.cab_curve.specs.declared.normal.NormTerm.{NormTerm}
-use Rattle.vote_core.specs.Ledgers.{ledger_of}
-use Rattle.order_bound.specs.TableText.{IsTableOf, basis_table}
 use Rattle.order_bound.specs.TableChecks.{IsRefused as IsRefusedText}
-use Rattle.block_code.specs.Compiled.{Compiled}
 use Rattle.command_words.specs.declared.words.Command.{Command}
 use Rattle.command_words.specs.declared.words.Command.TheVariants.{Member, Points, Params, Bound, Check, Votes, Trial}
 use Rattle.command_words.specs.declared.words.Words.{Words}
 use Rattle.code_descriptor.specs.declared.DescCause.{DescCause}
 use Rattle.code_descriptor.specs.declared.DescCause.TheVariants.{NoPoints, NothingFree}
-use Rattle.code_descriptor.specs.Meaning.{Parts, Meaning, meaning, refused, describes}
-use Rattle.descriptor_code.specs.Codes.{curve_of, domain_of, rule_of, IsFull, IsCodeOf, form_of_parts}
-use Rattle.descriptor_code.specs.Monomials.{IsCodeword, code_data}
+use Rattle.code_descriptor.specs.Parts.{Parts, equation}
+use Rattle.code_descriptor.specs.Meaning.{IsRefusedFor, Describes}
+use Rattle.descriptor_code.specs.Plain.{checks, bound, radius, plain_form, IsFull}
+use Rattle.descriptor_code.specs.Plain.{labels, checked_labels, IsRelation}
+use Rattle.descriptor_code.specs.Tables.{ledger, IsTable}
+use Rattle.descriptor_code.specs.Codes.{domain_of}
 use Rattle.code_texts.specs.Texts.{params_text_of, votes_text_of}
 use Rattle.code_trial.specs.Trials.{trial_text_of}
+use Rattle.agcode_top.specs.Calls.{SourceCall, SinkCall, GivesText, GivesTextFront}
+use Rattle.agcode_top.specs.declared.limit.TheConstants.{MOST_TABLE}
 use Rattle.agcode_top.specs.declared.status.Status.{Status}
-use Rattle.agcode_top.specs.declared.status.Status.TheVariants.{Done, NotCodeword, WordLength, Beyond, TableRefused, TooLong}
+use Rattle.agcode_top.specs.declared.status.Status.TheVariants.{Done, NotCodeword, WordLength, Beyond}
+use Rattle.agcode_top.specs.declared.status.Status.TheVariants.{TableRefused, TooLong}
 
 abbrev pub takes_no_code : Command → Bool
 takes_no_code Points = true
@@ -54,18 +59,18 @@ abbrev pub has_points : List Point → Bool
 has_points [] = false
 has_points _ = true
 
-abbrev pub IsRefusedPart : Command → Parts → DescCause → Type 0
-IsRefusedPart command p NoPoints = (takes_no_code command ≡ false) × (has_points p.points ≡ false)
-IsRefusedPart command p NothingFree = (takes_no_code command ≡ false) × (has_points p.points ≡ true) × IsFull p
-IsRefusedPart command p _ = ⊥
+abbrev pub RefusesParts : Command → Parts → DescCause → Type 0
+RefusesParts command p NoPoints = (takes_no_code command ≡ false) × (has_points p.points ≡ false)
+RefusesParts command p NothingFree = (takes_no_code command ≡ false) × (has_points p.points ≡ true) × IsFull p
+RefusesParts command p _ = ⊥
 
-abbrev pub IsRefused : Command → Meaning → DescCause → Type 0
-IsRefused command (refused cause) c = c ≡ cause
-IsRefused command (describes p) c = IsRefusedPart command p c
+abbrev pub Refuses : Command → List ℕ → DescCause → Type 0
+Refuses command text cause =
+    IsRefusedFor text cause ⊎ ((p : Parts) × Describes text p × RefusesParts command p cause)
 
 pub record Accepts (command : Command) (text : List ℕ) (p : Parts) : Type 0 where
-  pub described : meaning text ≡ describes p
-  pub accepted : (cause : DescCause) → IsRefusedPart command p cause → ⊥
+  pub described : Describes text p
+  pub accepted : (cause : DescCause) → RefusesParts command p cause → ⊥
 
 abbrev pub IsInputTold : Command → Bool → Type 0
 IsInputTold Points tells = Unit {0}
@@ -79,66 +84,52 @@ pub record IsNoWord (p : Parts) (input : List ℕ) (taken : ℕ) : Type 0 where
   pub taken_is : taken ≡ min (length input) (length p.points + 1)
 
 abbrev pub points_text : Parts → List ℕ
-points_text p = flat_map (λ q. point_line_of q.x q.y) (curve_points p.bits p.modulus p.terms)
+points_text p = flat_map (λ q. point_line_of q.x q.y) (curve_points p.bits p.modulus (equation p.space).terms)
 
 pub record HasParameters (p : Parts) (text : List ℕ) : Type 0 where
-  pub code : Compiled
-  pub is_code : IsCodeOf p code
   pub relation : List NormTerm
-  pub is_relation : IsNormalOf (curve_of p) p.modulus 0 p.a relation
-  pub text_is : text ≡ params_text_of code.basis code.marks code.bound code.radius relation
-
-pub record HasTable (p : Parts) (text : List ℕ) : Type 0 where
-  pub code : Compiled
-  pub is_code : IsCodeOf p code
-  pub is_table : IsTableOf code.basis code.marks text
+  pub is_relation : IsRelation p relation
+  pub text_is : text ≡ params_text_of
+      (length p.points) (labels p) (checked_labels p) (bound p) (radius p) relation
 
 pub record AcceptsTable (p : Parts) (input text : List ℕ) : Type 0 where
-  pub code : Compiled
-  pub is_code : IsCodeOf p code
-  pub bound : ℕ
-  pub is_bound : IsOrderBound code.basis code.marks bound
-  pub is_table : input ≡ basis_table code.basis code.marks bound
-  pub text_is : text ≡ number_line_of (codes "accepted bound") bound
+  pub is_table : IsTable p input
+  pub text_is : text ≡ number_line_of (codes "accepted bound") (bound p)
 
 pub record RefusesTable (p : Parts) (input : List ℕ) (line : ℕ) : Type 0 where
-  pub code : Compiled
-  pub is_code : IsCodeOf p code
-  pub not_table : IsTableOf code.basis code.marks input → ⊥
-  pub refused : IsRefusedText (domain_of p) p.modulus p.points (rule_of p) input line
+  pub not_table : IsTable p input → ⊥
+  pub refused : IsRefusedText (domain_of p) p.modulus p.points p.rule input line
+
+pub record IsNearWord (p : Parts) (input word : List ℕ) : Type 0 where
+  pub in_code : IsInCode (checks p) word
+  pub close : distance input word ≤ radius p
 
 pub record HasVotes (p : Parts) (input text : List ℕ) : Type 0 where
-  pub code : Compiled
-  pub is_code : IsCodeOf p code
   pub word : List ℕ
-  pub near : IsNear (times code.basis) code.basis code.marks code.radius input word
-  pub text_is : text ≡ votes_text_of (ledger_of code.basis code.marks (list_sum (low_bits code.basis.bits input) word))
+  pub near : IsNearWord p input word
+  pub text_is : text ≡ votes_text_of (ledger p (list_sum (low_bits p.bits input) word))
 
-pub record IsFar (p : Parts) (input : List ℕ) : Type 0 where
-  pub code : Compiled
-  pub is_code : IsCodeOf p code
-  pub none : (word : List ℕ) → IsNear (times code.basis) code.basis code.marks code.radius input word → ⊥
-
-pub record HasTrial (p : Parts) (asked : Words) (text : List ℕ) : Type 0 where
-  pub code : Compiled
-  pub is_code : IsCodeOf p code
-  pub text_is : text ≡ trial_text_of (form_of_parts p code) code.radius asked.seed asked.bytes
+abbrev pub IsFar : Parts → List ℕ → Type 0
+IsFar p input = (word : List ℕ) → IsNearWord p input word → ⊥
 
 abbrev pub SaysMember : Parts → List ℕ → Status → List ℕ → Type 0
-SaysMember p input Done text = IsCodeword (code_data p) input × (text ≡ plain_line_of (codes "codeword"))
-SaysMember p input NotCodeword text = (length input ≡ length p.points) × (IsCodeword (code_data p) input → ⊥) × (text ≡ plain_line_of (codes "not a codeword"))
+SaysMember p input Done text = IsInCode (checks p) input × (text ≡ plain_line_of (codes "codeword"))
+SaysMember p input NotCodeword text =
+    (length input ≡ length p.points) × (IsInCode (checks p) input → ⊥)
+    × (text ≡ plain_line_of (codes "not a codeword"))
 SaysMember p input (WordLength taken) text = IsNoWord p input taken × (text ≡ [])
 SaysMember p input _ text = ⊥
 
 abbrev pub SaysCheck : Parts → List ℕ → Status → List ℕ → Type 0
 SaysCheck p input Done text = AcceptsTable p input text
 SaysCheck p input (TableRefused line) text = RefusesTable p input line × (text ≡ [])
-SaysCheck p input (TooLong taken) text = (67108864 < taken) × (taken ≤ length input) × (text ≡ [])
+SaysCheck p input (TooLong taken) text = (MOST_TABLE < taken) × (taken ≤ length input) × (text ≡ [])
 SaysCheck p input _ text = ⊥
 
 abbrev pub SaysVotes : Parts → List ℕ → Status → List ℕ → Type 0
 SaysVotes p input Done text = (length input ≡ length p.points) × HasVotes p input text
-SaysVotes p input (Beyond group word) text = (group ≡ 0) × (word ≡ 0) × (length input ≡ length p.points) × IsFar p input × (text ≡ [])
+SaysVotes p input (Beyond group word) text =
+    (group ≡ 0) × (word ≡ 0) × (length input ≡ length p.points) × IsFar p input × (text ≡ [])
 SaysVotes p input (WordLength taken) text = IsNoWord p input taken × (text ≡ [])
 SaysVotes p input _ text = ⊥
 
@@ -146,13 +137,27 @@ abbrev pub Says : Words → Command → Parts → List ℕ → Status → List �
 Says asked Member p input status text = SaysMember p input status text
 Says asked Points p input status text = (status ≡ Done) × (text ≡ points_text p)
 Says asked Params p input status text = (status ≡ Done) × HasParameters p text
-Says asked Bound p input status text = (status ≡ Done) × HasTable p text
+Says asked Bound p input status text = (status ≡ Done) × IsTable p text
 Says asked Check p input status text = SaysCheck p input status text
 Says asked Votes p input status text = SaysVotes p input status text
-Says asked Trial p input status text = (status ≡ Done) × HasTrial p asked text
+Says asked Trial p input status text =
+    (status ≡ Done) × (text ≡ trial_text_of (plain_form p) (radius p) asked.seed asked.bytes)
 Says asked _ p input status text = ⊥
 
--- a word of n bytes that a codeword is near
+pub record GaveAnswer (asked : Words) (command : Command) (p : Parts) (input : SourceCall) (out : SinkCall)
+    (status : Status) : Type 0 where
+  pub text : List ℕ
+  pub says : Says asked command p input.before.left status text
+  pub given : GivesText out text
+
+pub record GaveAnswerFront (asked : Words) (command : Command) (p : Parts) (input : SourceCall) (out : SinkCall)
+    : Type 0 where
+  pub status : Status
+  pub text : List ℕ
+  pub says : Says asked command p input.before.left status text
+  pub given : GivesTextFront out text
+
 pub record IsNearCode (p : Parts) (input : List ℕ) : Type 0 where
   pub n_long : length input ≡ length p.points
-  pub near : (code : Compiled) → IsCodeOf p code → (word : List ℕ) × IsNear (times code.basis) code.basis code.marks code.radius input word
+  pub word : List ℕ
+  pub near : IsNearWord p input word

@@ -1,9 +1,10 @@
-pub mod Flows
+pub mod Calls
+pub mod Statuses
 pub mod Lines
-pub mod Inputs
-pub mod Texts
 pub mod Commands
-pub mod Steps
 pub mod Streams
-pub mod Runs
 pub mod Headline
+pub mod Texts
+pub mod Inputs
+pub mod Steps
+pub mod Leaves

@@ -7,7 +7,10 @@ use Rattle.code_descriptor.specs.declared.KeyName.TheVariants as key
 use Rattle.code_descriptor.specs.declared.DescCause.{DescCause}
 use Rattle.code_descriptor.specs.declared.DescCause.TheVariants as cause
 use Rattle.agcode_top.specs.declared.status.Status.{Status}
-use Rattle.agcode_top.specs.declared.status.Status.TheVariants.{Done, NotCodeword, Beyond, Ragged, Framing, TableRefused, WordLength, Usage, Descriptor, TooLong, DescFault, InputFault, OutFault, ReportFault, NoMemory}
+use Rattle.agcode_top.specs.declared.status.Status.TheVariants.{Done, NotCodeword, Beyond, Ragged, Framing}
+use Rattle.agcode_top.specs.declared.status.Status.TheVariants.{TableRefused, WordLength, Usage, Descriptor}
+use Rattle.agcode_top.specs.declared.status.Status.TheVariants.{TooLong, DescFault, InputFault, OutFault}
+use Rattle.agcode_top.specs.declared.status.Status.TheVariants.{ReportFault, NoMemory}
 
 abbrev pub number_of : Status → ℕ
 number_of Done = 0
@@ -36,6 +39,8 @@ cause_line_of (cause.BadKey key.B) = plain_line_of (codes "descriptor: key b")
 cause_line_of (cause.BadKey key.Terms) = plain_line_of (codes "descriptor: key terms")
 cause_line_of (cause.BadKey key.Points) = plain_line_of (codes "descriptor: key points")
 cause_line_of (cause.BadKey key.Weight) = plain_line_of (codes "descriptor: key weight")
+cause_line_of (cause.BadKey key.Improved) = plain_line_of (codes "descriptor: key improved")
+cause_line_of (cause.BadKey key.Layout) = plain_line_of (codes "descriptor: key layout")
 cause_line_of (cause.BadKey key.Depth) = plain_line_of (codes "descriptor: key depth")
 cause_line_of (cause.BadKey key.Unknown) = plain_line_of (codes "descriptor: key unknown")
 cause_line_of cause.BadField = plain_line_of (codes "descriptor: field")
@@ -44,6 +49,8 @@ cause_line_of (cause.BadTerm index) = number_line_of (codes "descriptor: term") 
 cause_line_of cause.MissingLead = plain_line_of (codes "descriptor: lead")
 cause_line_of (cause.BadPoint index) = number_line_of (codes "descriptor: point") index
 cause_line_of cause.BadWeight = plain_line_of (codes "descriptor: weight")
+cause_line_of cause.BadImproved = plain_line_of (codes "descriptor: improved")
+cause_line_of cause.BadLayout = plain_line_of (codes "descriptor: layout")
 cause_line_of cause.BadDepth = plain_line_of (codes "descriptor: depth")
 cause_line_of cause.NoPoints = plain_line_of (codes "descriptor: no points")
 cause_line_of cause.NothingFree = plain_line_of (codes "descriptor: nothing free")

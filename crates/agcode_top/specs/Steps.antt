@@ -1,27 +1,38 @@
 -- IsWordFault    why no word of n bytes was read: a fault, want of memory, or an input of another length
--- GaveText       a text was written, and the status is the one that was handed in; or a write failed, and a front was
---                written
--- WroteText      the first of these
--- WroteFront     the second
-use Rattle.std.specs.Prelude.{◌≡◌, ◌≢◌, ℕ, ◌+◌, min, List, ◌++◌, length, IsTrue, ◌⊎◌}
+-- AnswersText    a text was written, and the status is the one that was handed in
+-- FailsAtText    .. or a write failed, and a front was written
+-- LeavesText     one of these
+-- SaysOf         what the checks of a text say of it: it is the table, with the bound, or the line at which one fails
+use Rattle.std.specs.Prelude.{◌≡◌, ◌≢◌, ℕ, ◌+◌, min, List, length, IsTrue, ◌⊎◌}
+use Rattle.order_bound.specs.declared.table.TableSays.{TableSays}
+use Rattle.order_bound.specs.declared.table.TableSays.TheVariants.{Accepted, Refused}
+use Rattle.code_descriptor.specs.Parts.{Parts}
+use Rattle.descriptor_code.specs.Plain.{bound}
+use Rattle.descriptor_code.specs.Tables.{IsTable}
+use Rattle.agcode_top.specs.Commands.{RefusesTable}
 use Rattle.agcode_top.specs.declared.status.Status.{Status}
 use Rattle.agcode_top.specs.declared.status.Status.TheVariants.{WordLength, InputFault, OutFault, NoMemory}
-use Rattle.agcode_top.specs.Flows.{Flow, Failed, GavePart}
+use Rattle.agcode_top.specs.Calls.{SourceCall, SinkCall, GivesText, GivesTextFront, ReadFailed, WriteFailed}
 
-abbrev pub IsWordFault : ℕ → Flow → Status → Type 0
+abbrev pub IsWordFault : ℕ → SourceCall → Status → Type 0
 IsWordFault n input NoMemory = Unit {0}
-IsWordFault n input InputFault = Failed input
-IsWordFault n input (WordLength taken) = IsTrue input.tells → (length input.before ≢ n) × (taken ≡ min (length input.before) (n + 1))
+IsWordFault n input InputFault = ReadFailed input
+IsWordFault n input (WordLength taken) = IsTrue input.tells →
+    (length input.before.left ≢ n) × (taken ≡ min (length input.before.left) (n + 1))
 IsWordFault n input _ = ⊥
 
-pub record WroteText (out : Flow) (text : List ℕ) (status result : Status) : Type 0 where
+pub record AnswersText (out : SinkCall) (text : List ℕ) (status result : Status) : Type 0 where
   pub same : result ≡ status
-  pub given : IsTrue out.tells → out.after ≡ out.before ++ text
+  pub given : GivesText out text
 
-pub record WroteFront (out : Flow) (text : List ℕ) (result : Status) : Type 0 where
+pub record FailsAtText (out : SinkCall) (text : List ℕ) (result : Status) : Type 0 where
   pub stopped : result ≡ OutFault
-  pub failed : Failed out
-  pub given : IsTrue out.tells → GavePart out.before out.after text
+  pub failed : WriteFailed out
+  pub given : GivesTextFront out text
 
-abbrev pub GaveText : Flow → List ℕ → Status → Status → Type 0
-GaveText out text status result = WroteText out text status result ⊎ WroteFront out text result
+abbrev pub LeavesText : SinkCall → List ℕ → Status → Status → Type 0
+LeavesText out text status result = AnswersText out text status result ⊎ FailsAtText out text result
+
+abbrev pub SaysOf : Parts → List ℕ → TableSays → Type 0
+SaysOf p text (Accepted least) = IsTable p text × (least ≡ bound p)
+SaysOf p text (Refused line) = RefusesTable p text line

@@ -1,13 +1,11 @@
--- Sureness         how many bytes a sink is sure to take, before and after a call
--- most             the most bytes that encode and decode take
 -- encode_status    the status of what an encoded stream answers
 -- decode_status    the status of what a decoded stream answers
 -- encode_of        an encoding of the input, as the streams see it
 -- decode_of        a decoding of the input, as the streams see it
--- Encoded          what the code of these parts in streams answers of an input, by the status
+-- Encoded          what encoding an input with the code of a descriptor answers, by the status
 -- Decoded          the same of decoding
-use Rattle.std.specs.Prelude.{◌≡◌, ℕ, Result, Ok, Err}
-use Rattle.stored_form.specs.Form.{Form}
+use Rattle.std.specs.Prelude.{◌≡◌, Result, Ok, Err}
+use Rattle.stored_form.specs.Form.{Form, IsSound}
 use Rattle.stream_codec.specs.declared.encode.EncodeCounts.{EncodeCounts}
 use Rattle.stream_codec.specs.declared.encode.EncodeFault.{EncodeFault}
 use Rattle.stream_codec.specs.declared.encode.EncodeFault.TheVariants as encoding
@@ -16,15 +14,13 @@ use Rattle.stream_codec.specs.declared.decode.DecodeFault.{DecodeFault}
 use Rattle.stream_codec.specs.declared.decode.DecodeFault.TheVariants as decoding
 use Rattle.stream_codec.specs.Encoded.{Encode, EncodedAs, EncodesAll}
 use Rattle.stream_codec.specs.Decoding.{Decode, DecodedAs, IsComplete}
-use Rattle.block_code.specs.Compiled.{Compiled}
-use Rattle.code_descriptor.specs.Meaning.{Parts}
-use Rattle.descriptor_code.specs.Codes.{ArePlain, IsCodeOf, form_of_parts}
+use Rattle.code_descriptor.specs.Parts.{Parts}
+use Rattle.descriptor_code.specs.Plain.{plain_form}
+use Rattle.stream_codec.specs.declared.limits.TheConstants.{MOST_BYTES}
 use Rattle.agcode_top.specs.declared.status.Status.{Status}
-use Rattle.agcode_top.specs.declared.status.Status.TheVariants.{Done, Beyond, Ragged, Framing, TooLong, InputFault, OutFault, ReportFault}
-use Rattle.agcode_top.specs.Flows.{Flow}
-
-abbrev pub most : ℕ
-most = 1099511627776
+use Rattle.agcode_top.specs.declared.status.Status.TheVariants.{Done, Beyond, Ragged, Framing, TooLong}
+use Rattle.agcode_top.specs.declared.status.Status.TheVariants.{InputFault, OutFault, ReportFault}
+use Rattle.agcode_top.specs.Calls.{SourceCall, SinkCall}
 
 abbrev pub encode_status : Result EncodeCounts EncodeFault → Status
 encode_status (Ok counts) = Done
@@ -42,54 +38,42 @@ decode_status (Err (decoding.Beyond group word)) = Beyond group word
 decode_status (Err (decoding.Ragged extra)) = Ragged extra
 decode_status (Err decoding.Framing) = Framing
 
-pub record Sureness : Type 0 where
-  pub before : ℕ
-  pub after : ℕ
-
-abbrev pub encode_of : Form → Flow → Flow → Sureness → Encode
-encode_of F input out out_sure = record {
+abbrev pub encode_of : Form → SourceCall → SinkCall → Encode
+encode_of F input out = record {
   form = F;
-  limit = most;
+  limit = MOST_BYTES;
   source_tells = input.tells;
-  source = record { left = input.before; faults = input.faults_before };
-  source_after = record { left = input.after; faults = input.faults_after };
+  source = input.before;
+  source_after = input.after;
   out_tells = out.tells;
-  out = record { given = out.before; faults = out.faults_before; sure = out_sure.before };
-  out_after = record { given = out.after; faults = out.faults_after; sure = out_sure.after };
+  out = out.before;
+  out_after = out.after;
 }
 
-abbrev pub decode_of : Form → Flow → Flow → Sureness → Flow → Sureness → Decode
-decode_of F input out out_sure report report_sure = record {
+abbrev pub decode_of : Form → SourceCall → SinkCall → SinkCall → Decode
+decode_of F input out report = record {
   form = F;
-  limit = most;
+  limit = MOST_BYTES;
   source_tells = input.tells;
-  source = record { left = input.before; faults = input.faults_before };
-  source_after = record { left = input.after; faults = input.faults_after };
+  source = input.before;
+  source_after = input.after;
   out_tells = out.tells;
-  out = record { given = out.before; faults = out.faults_before; sure = out_sure.before };
-  out_after = record { given = out.after; faults = out.faults_after; sure = out_sure.after };
+  out = out.before;
+  out_after = out.after;
   report_tells = report.tells;
-  report = record { given = report.before; faults = report.faults_before; sure = report_sure.before };
-  report_after = record { given = report.after; faults = report.faults_after; sure = report_sure.after };
+  report = report.before;
+  report_after = report.after;
 }
 
-pub record Encoded (p : Parts) (input out : Flow) (status : Status) : Type 0 where
-  pub plain : ArePlain p
-  pub code : Compiled
-  pub is_code : IsCodeOf p code
+pub record Encoded (p : Parts) (input : SourceCall) (out : SinkCall) (status : Status) : Type 0 where
   pub answer : Result EncodeCounts EncodeFault
   pub status_is : status ≡ encode_status answer
-  pub out_sure : Sureness
-  pub encoded : EncodedAs (encode_of (form_of_parts p code) input out out_sure) answer
-  pub complete : EncodesAll (encode_of (form_of_parts p code) input out out_sure) answer
+  pub encoded : EncodedAs (encode_of (plain_form p) input out) answer
+  pub complete : EncodesAll (encode_of (plain_form p) input out) answer
 
-pub record Decoded (p : Parts) (input out report : Flow) (status : Status) : Type 0 where
-  pub plain : ArePlain p
-  pub code : Compiled
-  pub is_code : IsCodeOf p code
+pub record Decoded (p : Parts) (input : SourceCall) (out report : SinkCall) (status : Status) : Type 0 where
+  pub sound : IsSound (plain_form p)
   pub answer : Result DecodeCounts DecodeFault
   pub status_is : status ≡ decode_status answer
-  pub out_sure : Sureness
-  pub report_sure : Sureness
-  pub decoded : DecodedAs (decode_of (form_of_parts p code) input out out_sure report report_sure) answer
-  pub complete : IsComplete (decode_of (form_of_parts p code) input out out_sure report report_sure) answer
+  pub decoded : DecodedAs (decode_of (plain_form p) input out report) answer
+  pub complete : IsComplete (decode_of (plain_form p) input out report) answer

@@ -1,20 +1,17 @@
 //! Encoded texts as files.
 
 ghost use Rattle.std.specs.Prelude.{◌≡◌, ℕ, ◌≤◌};
-ghost use Rattle.code_descriptor.specs.Meaning.{Parts};
-ghost use Rattle.descriptor_code.specs.Codes.{IsDescribed};
-ghost use Rattle.agcode_top.specs.Flows.{took, gave};
-ghost use Rattle.agcode_top.specs.Runs.{DecodeDid};
+ghost use Rattle.agcode_top.specs.Calls.{source_call, sink_call};
+ghost use Rattle.agcode_top.specs.Leaves.{DecodeLeaves};
 ghost use Rattle.agcode_top.specs.Streams.{decode_status};
 
-use crate::limit::LIMIT;
 use crate::status::Status;
 use ag_io::{Sink, Source};
-use ag_pool::Gate;
+use ag_pool::{Gate, Workers};
 use descriptor_code::DescribedCode;
 use std::alloc::Global;
 use std::thread::Threads;
-use stream_codec::{DecodeCounts, DecodeFault, DecodeRoom, decode_stream};
+use stream_codec::{DecodeCounts, DecodeFault, DecodeRoom, MOST_BYTES, decode_stream, layout_of};
 
 // The status of an answer.
 fn status_of(answer: Result<DecodeCounts, DecodeFault>) -> Status
@@ -38,26 +35,24 @@ pub fn decode<X: Threads + Sync, I: Source, O: Sink, R: Sink, G: Gate>(
     rt: &X,
     alloc: Global,
     described: &DescribedCode,
-    workers: u32,
+    workers: Workers,
     input: &mut I,
     out: &mut O,
     report: &mut R,
     gate: &G,
 ) -> Status
-    requires described { (p : Parts) × IsDescribed p described.now }
-    requires some_workers { 1 ≤ workers }
-    requires few_workers { workers ≤ 64 }
-    ensures did { (p : Parts) → IsDescribed p described.now → DecodeDid p
-        (took I.tells (I.view input.old) (I.view input.new))
-        (gave O.tells (O.view out.old) (O.view out.new))
-        (gave R.tells (R.view report.old) (R.view report.new)) result }
+    ensures leaves { DecodeLeaves described.now
+        (source_call I.Source input.old input.new)
+        (sink_call O.Sink out.old out.new)
+        (sink_call R.Sink report.old report.new) result }
     ensures input_counted { (I.view input.old).faults ≤ (I.view input.new).faults }
     ensures out_counted { (O.view out.old).faults ≤ (O.view out.new).faults }
     ensures report_counted { (R.view report.old).faults ≤ (R.view report.new).faults }
 {
-    let code = &described.code;
-    let Ok(mut room) = DecodeRoom::new(alloc, code, described.depth, workers) else {
+    let code = described.code();
+    let layout = layout_of(code, described.depth(), described.is_packed());
+    let Ok(mut room) = DecodeRoom::new(alloc, code, &layout, workers) else {
         return Status::NoMemory;
     };
-    status_of(decode_stream(rt, code, &mut room, input, out, report, LIMIT, gate))
+    status_of(decode_stream(rt, code, &mut room, input, out, report, MOST_BYTES, gate))
 }

@@ -1,18 +1,15 @@
 //! Files as encoded texts.
 
 ghost use Rattle.std.specs.Prelude.{◌≡◌, ℕ, ◌≤◌, IsTrue};
-ghost use Rattle.code_descriptor.specs.Meaning.{Parts};
-ghost use Rattle.descriptor_code.specs.Codes.{IsDescribed};
-ghost use Rattle.agcode_top.specs.Flows.{took, gave};
-ghost use Rattle.agcode_top.specs.Runs.{EncodeDid};
+ghost use Rattle.agcode_top.specs.Calls.{source_call, sink_call};
+ghost use Rattle.agcode_top.specs.Leaves.{EncodeLeaves};
 ghost use Rattle.agcode_top.specs.Streams.{encode_status};
 
-use crate::limit::LIMIT;
 use crate::status::Status;
 use ag_io::{Sink, Source};
 use descriptor_code::DescribedCode;
 use std::alloc::Global;
-use stream_codec::{EncodeCounts, EncodeFault, EncodeRoom, encode_stream};
+use stream_codec::{EncodeCounts, EncodeFault, EncodeRoom, MOST_BYTES, encode_stream, layout_of};
 
 // The status of an answer.
 fn status_of(answer: Result<EncodeCounts, EncodeFault>) -> Status
@@ -33,16 +30,16 @@ pub fn encode<I: Source, O: Sink>(
     input: &mut I,
     out: &mut O,
 ) -> Status
-    requires { (p : Parts) × IsDescribed p described.now }
-    ensures did { (p : Parts) → IsDescribed p described.now → EncodeDid p
-        (took I.tells (I.view input.old) (I.view input.new))
-        (gave O.tells (O.view out.old) (O.view out.new)) result }
+    ensures leaves { EncodeLeaves described.now
+        (source_call I.Source input.old input.new)
+        (sink_call O.Sink out.old out.new) result }
     ensures input_counted { (I.view input.old).faults ≤ (I.view input.new).faults }
     ensures out_counted { (O.view out.old).faults ≤ (O.view out.new).faults }
 {
-    let code = &described.code;
-    let Ok(mut room) = EncodeRoom::new(alloc, code, described.depth) else {
+    let code = described.code();
+    let layout = layout_of(code, described.depth(), described.is_packed());
+    let Ok(mut room) = EncodeRoom::new(alloc, code, &layout) else {
         return Status::NoMemory;
     };
-    status_of(encode_stream(code, &mut room, input, out, LIMIT))
+    status_of(encode_stream(code, &mut room, input, out, MOST_BYTES))
 }

@@ -1,14 +1,13 @@
 //! All of the input.
 
 ghost use Rattle.std.specs.Prelude.{◌≡◌, ℕ, ◌+◌, ◌<◌, ◌≤◌, ◌++◌, length, IsTrue, IfOk, IfErr};
-ghost use Rattle.ag_io.specs.Counts.{Rose};
+ghost use Rattle.agcode_top.specs.Calls.{source_call};
 ghost use Rattle.agcode_top.specs.Inputs.{IsInputFault, Took};
 
+use crate::limit::MOST_TABLE;
 use ag_io::{Filled, Source, fill};
 use std::alloc::{AllocError, Global};
-
-// The bytes that are read at a time.
-const PIECE: usize = 4096;
+use stream_codec::PIECE;
 
 /// Why an input was not read.
 #[derive(Clone, Copy, Debug, PartialEq, Eq)]
@@ -43,8 +42,9 @@ fn take_piece<I: Source>(
     piece: &mut [u8],
     input: &mut I,
 ) -> Result<Tail, AllocError>
-    requires { length piece.old ≡ 4096 }
-    ensures took { IfOk result (Took I.tells (I.view input.old).left (I.view input.new).left (I.view input.old).faults (I.view input.new).faults text.old.items text.new.items) }
+    requires { length piece.old ≡ PIECE }
+    ensures took { IfOk result
+        (Took (source_call I.Source input.old input.new) text.old.items text.new.items) }
     ensures counted { (I.view input.old).faults ≤ (I.view input.new).faults }
 {
     match fill(input, piece) {
@@ -69,10 +69,11 @@ pub fn read_input<I: Source>(
     limit: usize,
     input: &mut I,
 ) -> Result<Vec<u8>, InputFault>
-    requires { limit ≤ 1099511627776 }
+    requires { limit ≤ MOST_TABLE }
     ensures all { IfOk result (λ text. IsTrue I.tells → (I.view input.old).left ≡ text.items) }
     ensures within { IfOk result (λ text. length text.items ≤ limit) }
-    ensures fault { IfErr result (IsInputFault limit I.tells (I.view input.old).left (I.view input.old).faults (I.view input.new).faults) }
+    ensures fault { IfErr result
+        (IsInputFault limit (source_call I.Source input.old input.new)) }
     ensures counted { (I.view input.old).faults ≤ (I.view input.new).faults }
 {
     let mut text = Vec::new(alloc);

@@ -1,16 +1,20 @@
 //! The top call `run`, which carries every promise of the program: start with its contract in `top`, and with what the
-//! commands say in `specs/Commands`.
+//! commands say in `specs/Headline` and `specs/Commands`.
 #![tactic(auto)]
 
+mod carry_out;
 mod check;
+mod compile_and_serve;
 mod decode;
 mod encode;
 mod input;
 mod limit;
 mod member;
+mod obey;
 mod params;
 mod points;
 mod report;
+mod serve;
 mod status;
 mod table;
 mod text;
@@ -19,5 +23,6 @@ mod trial;
 mod votes;
 mod word;
 
+pub use limit::MOST_TABLE;
 pub use status::Status;
 pub use top::run;

@@ -1,4 +1,4 @@
 //! How much of the input is taken.
 
-/// The most bytes of a file that is encoded, or of an encoded text.
-pub const LIMIT: u64 = 1_099_511_627_776;
+/// The most bytes of a table that is checked.
+pub const MOST_TABLE: usize = 67_108_864;

@@ -1,12 +1,10 @@
 //! Whether a word of the input is in the code.
 
-ghost use Rattle.std.specs.Prelude.{◌≡◌, ℕ, ◌≤◌, length, IsTrue};
+ghost use Rattle.std.specs.Prelude.{◌≡◌, ℕ, ◌≤◌};
 ghost use Rattle.command_words.specs.declared.words.Command.TheVariants.{Member};
 ghost use Rattle.command_words.specs.declared.words.Words.{Words};
-ghost use Rattle.code_descriptor.specs.Meaning.{Parts};
-ghost use Rattle.descriptor_code.specs.Codes.{IsDescribed};
-ghost use Rattle.agcode_top.specs.Flows.{took, gave};
-ghost use Rattle.agcode_top.specs.Runs.{PlainDid};
+ghost use Rattle.agcode_top.specs.Calls.{source_call, sink_call};
+ghost use Rattle.agcode_top.specs.Leaves.{AnswerLeaves};
 
 use crate::status::Status;
 use crate::word::{answer, read_word};
@@ -21,14 +19,13 @@ pub fn member<I: Source, O: Sink>(
     input: &mut I,
     out: &mut O,
 ) -> Status
-    requires { (p : Parts) × IsDescribed p described.now }
-    ensures did { (w : Words) (p : Parts) → IsDescribed p described.now → PlainDid w Member p
-        (took I.tells (I.view input.old) (I.view input.new))
-        (gave O.tells (O.view out.old) (O.view out.new)) result }
+    ensures leaves { (w : Words) → AnswerLeaves w Member described.now
+        (source_call I.Source input.old input.new)
+        (sink_call O.Sink out.old out.new) result }
     ensures input_counted { (I.view input.old).faults ≤ (I.view input.new).faults }
     ensures out_counted { (O.view out.old).faults ≤ (O.view out.new).faults }
 {
-    let code = &described.code;
+    let code = described.code();
     let word = match read_word(alloc, code.n() as usize, input) {
         Ok(word) => word,
         Err(status) => return status,

@@ -1,39 +1,47 @@
 //! The parameters of a code.
 
-ghost use Rattle.std.specs.Prelude.{◌≡◌, ℕ, ◌≤◌};
+ghost use Rattle.std.specs.Prelude.{◌≡◌, ℕ, ◌≤◌, IfOk};
 ghost use Rattle.command_words.specs.declared.words.Command.TheVariants.{Params};
 ghost use Rattle.command_words.specs.declared.words.Words.{Words};
-ghost use Rattle.code_descriptor.specs.Meaning.{Parts};
-ghost use Rattle.descriptor_code.specs.Codes.{IsDescribed};
-ghost use Rattle.agcode_top.specs.Flows.{gave, Flow};
-ghost use Rattle.agcode_top.specs.Runs.{PlainDid};
+ghost use Rattle.agcode_top.specs.Calls.{sink_call, SourceCall};
+ghost use Rattle.agcode_top.specs.Commands.{HasParameters};
+ghost use Rattle.agcode_top.specs.Leaves.{AnswerLeaves};
 
 use crate::status::Status;
 use crate::word::answer;
 use ag_io::Sink;
 use code_texts::{Parameters, params_text};
 use descriptor_code::DescribedCode;
-use std::alloc::Global;
+use std::alloc::{AllocError, Global};
 
-/// Writes the parameters of a code, with the normal form of `y^a`.
-pub fn params<O: Sink>(alloc: Global, described: &DescribedCode, out: &mut O) -> Status
-    requires { (p : Parts) × IsDescribed p described.now }
-    ensures did { (w : Words) (p : Parts) (input : Flow) → IsDescribed p described.now → PlainDid w Params p input
-        (gave O.tells (O.view out.old) (O.view out.new)) result }
-    ensures out_counted { (O.view out.old).faults ≤ (O.view out.new).faults }
+// The text of the parameters of a code.
+fn text_of(alloc: Global, described: &DescribedCode) -> Result<Vec<u8>, AllocError>
+    ensures { IfOk result (λ text. HasParameters described.now text.items) }
 {
-    let code = &described.code;
+    let code = described.code();
     let numbers = Parameters {
+        n: code.n(),
         bound: code.bound(),
         radius: code.radius(),
     };
-    match params_text(
+    let labels = described.labels(alloc)?;
+    let checked = described.checked_labels(alloc)?;
+    params_text(
         alloc,
-        code.basis(),
-        code.checked(),
         numbers,
-        described.relation.terms(),
-    ) {
+        &labels,
+        &checked,
+        described.relation().terms(),
+    )
+}
+
+/// Writes the parameters of a code, with the normal form of `y^a`.
+pub fn params<O: Sink>(alloc: Global, described: &DescribedCode, out: &mut O) -> Status
+    ensures leaves { (w : Words) (input : SourceCall) → AnswerLeaves w Params described.now input
+        (sink_call O.Sink out.old out.new) result }
+    ensures out_counted { (O.view out.old).faults ≤ (O.view out.new).faults }
+{
+    match text_of(alloc, described) {
         Ok(text) => answer(out, &text, Status::Done),
         Err(_) => Status::NoMemory,
     }

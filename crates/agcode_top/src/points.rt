@@ -1,12 +1,11 @@
-//! All points of a curve.
+//! All points of a space.
 
 ghost use Rattle.std.specs.Prelude.{◌≡◌, ℕ, ◌≤◌, ◌++◌, IfOk, OnOk, IsTrue};
 ghost use Rattle.std.specs.List.{flat_map};
 ghost use Rattle.ag_texts.specs.Lines.{point_line_of};
-ghost use Rattle.code_descriptor.specs.Views.{parts_of, IsDescriptor};
 ghost use Rattle.agcode_top.specs.Commands.{points_text};
-ghost use Rattle.agcode_top.specs.Flows.{gave, Flow};
-ghost use Rattle.agcode_top.specs.Runs.{PlainDid};
+ghost use Rattle.agcode_top.specs.Calls.{sink_call, SourceCall};
+ghost use Rattle.agcode_top.specs.Leaves.{AnswerLeaves};
 ghost use Rattle.command_words.specs.declared.words.Command.TheVariants.{Points};
 ghost use Rattle.command_words.specs.declared.words.Words.{Words};
 
@@ -15,7 +14,7 @@ use crate::word::answer;
 use ag_io::Sink;
 use ag_texts::{LineBuf, point_line};
 use cab_curve::Point;
-use code_descriptor::Descriptor;
+use code_descriptor::{Descriptor, Space};
 use std::alloc::{AllocError, Global};
 
 // The lines of these points.
@@ -31,23 +30,22 @@ fn lines_of(alloc: Global, points: &[Point]) -> Result<Vec<u8>, AllocError>
     Ok(text)
 }
 
-// The text of all points of the curve.
-fn text_of_points(alloc: Global, d: &Descriptor) -> Result<Vec<u8>, AllocError>
-    requires { IsDescriptor d.now }
-    ensures { IfOk result (λ text. text.items ≡ points_text (parts_of d.now)) }
+// The text of all points of the space.
+fn text_of_points(alloc: Global, descriptor: &Descriptor) -> Result<Vec<u8>, AllocError>
+    ensures { IfOk result (λ text. text.items ≡ points_text descriptor.now) }
 {
-    let points = d.curve.all_points(alloc, &d.field)?;
+    let Space::Cab { curve } = descriptor.space();
+    let points = curve.all_points(alloc, descriptor.field())?;
     lines_of(alloc, &points)
 }
 
-/// Writes all points of the curve, a line each.
-pub fn points<O: Sink>(alloc: Global, d: &Descriptor, out: &mut O) -> Status
-    requires { IsDescriptor d.now }
-    ensures did { (w : Words) (input : Flow) → PlainDid w Points (parts_of d.now) input
-        (gave O.tells (O.view out.old) (O.view out.new)) result }
+/// Writes all points of the space, a line each.
+pub fn points<O: Sink>(alloc: Global, descriptor: &Descriptor, out: &mut O) -> Status
+    ensures leaves { (w : Words) (input : SourceCall) → AnswerLeaves w Points descriptor.now input
+        (sink_call O.Sink out.old out.new) result }
     ensures out_counted { (O.view out.old).faults ≤ (O.view out.new).faults }
 {
-    match text_of_points(alloc, d) {
+    match text_of_points(alloc, descriptor) {
         Ok(text) => answer(out, &text, Status::Done),
         Err(_) => Status::NoMemory,
     }

@@ -3,7 +3,7 @@
 ghost use Rattle.std.specs.Prelude.{◌≡◌, ℕ, ◌≤◌, ◌++◌, [], IsTrue};
 ghost use Rattle.ag_io.specs.Counts.{Rose};
 ghost use Rattle.agcode_top.specs.Lines.{cause_line_of, line_of};
-ghost use Rattle.agcode_top.specs.Flows.{GaveOrFailed};
+ghost use Rattle.agcode_top.specs.Calls.{sink_call, GivesOrFails};
 
 use crate::status::Status;
 use ag_io::{Sink, put};
@@ -22,6 +22,8 @@ fn key_line(buf: &mut LineBuf, key: KeyName)
         KeyName::Terms => plain_line(buf, "descriptor: key terms"),
         KeyName::Points => plain_line(buf, "descriptor: key points"),
         KeyName::Weight => plain_line(buf, "descriptor: key weight"),
+        KeyName::Improved => plain_line(buf, "descriptor: key improved"),
+        KeyName::Layout => plain_line(buf, "descriptor: key layout"),
         KeyName::Depth => plain_line(buf, "descriptor: key depth"),
         KeyName::Unknown => plain_line(buf, "descriptor: key unknown"),
     }
@@ -41,6 +43,8 @@ fn cause_line(buf: &mut LineBuf, cause: DescCause)
         DescCause::MissingLead => plain_line(buf, "descriptor: lead"),
         DescCause::BadPoint { index } => number_line(buf, "descriptor: point", u64::from(index)),
         DescCause::BadWeight => plain_line(buf, "descriptor: weight"),
+        DescCause::BadImproved => plain_line(buf, "descriptor: improved"),
+        DescCause::BadLayout => plain_line(buf, "descriptor: layout"),
         DescCause::BadDepth => plain_line(buf, "descriptor: depth"),
         DescCause::NoPoints => plain_line(buf, "descriptor: no points"),
         DescCause::NothingFree => plain_line(buf, "descriptor: nothing free"),
@@ -70,8 +74,9 @@ fn status_line(buf: &mut LineBuf, status: &Status)
 
 /// Writes the line of a status. A write that fails is passed over: the status is fixed already.
 pub fn tell<R: Sink>(report: &mut R, status: &Status)
-    ensures given { IsTrue R.tells → GaveOrFailed (R.view report.old).given (R.view report.new).given (R.view report.old).faults (R.view report.new).faults (line_of status.now) }
-    ensures quiet { line_of status.now ≡ [] → (R.view report.new).faults ≡ (R.view report.old).faults }
+    ensures given { GivesOrFails (sink_call R.Sink report.old report.new) (line_of status.now) }
+    ensures quiet { line_of status.now ≡ [] →
+        (R.view report.new).faults ≡ (R.view report.old).faults }
     ensures counted { (R.view report.old).faults ≤ (R.view report.new).faults }
 {
     let mut line = LineBuf::new();

@@ -3,10 +3,8 @@
 ghost use Rattle.std.specs.Prelude.{◌≡◌, ℕ, ◌≤◌};
 ghost use Rattle.command_words.specs.declared.words.Command.TheVariants.{Bound};
 ghost use Rattle.command_words.specs.declared.words.Words.{Words};
-ghost use Rattle.code_descriptor.specs.Meaning.{Parts};
-ghost use Rattle.descriptor_code.specs.Codes.{IsDescribed};
-ghost use Rattle.agcode_top.specs.Flows.{gave, Flow};
-ghost use Rattle.agcode_top.specs.Runs.{PlainDid};
+ghost use Rattle.agcode_top.specs.Calls.{sink_call, SourceCall};
+ghost use Rattle.agcode_top.specs.Leaves.{AnswerLeaves};
 
 use crate::status::Status;
 use crate::word::answer;
@@ -17,12 +15,11 @@ use std::alloc::Global;
 
 /// Writes the table of the order bound.
 pub fn table<O: Sink>(alloc: Global, described: &DescribedCode, out: &mut O) -> Status
-    requires { (p : Parts) × IsDescribed p described.now }
-    ensures did { (w : Words) (p : Parts) (input : Flow) → IsDescribed p described.now → PlainDid w Bound p input
-        (gave O.tells (O.view out.old) (O.view out.new)) result }
+    ensures leaves { (w : Words) (input : SourceCall) → AnswerLeaves w Bound described.now input
+        (sink_call O.Sink out.old out.new) result }
     ensures out_counted { (O.view out.old).faults ≤ (O.view out.new).faults }
 {
-    let code = &described.code;
+    let code = described.code();
     match table_text(alloc, code.basis(), code.checked()) {
         Ok(text) => answer(out, &text, Status::Done),
         Err(_) => Status::NoMemory,

@@ -1,15 +1,16 @@
 //! The text of the descriptor.
 
 ghost use Rattle.std.specs.Prelude.{◌≡◌, ℕ, ◌+◌, ◌≤◌, ◌++◌, length, IsTrue, IfOk, IfErr};
-ghost use Rattle.ag_io.specs.Counts.{Rose};
-ghost use Rattle.code_descriptor.specs.Meaning.{meaning};
+ghost use Rattle.code_descriptor.specs.Meaning.{MeansTheSame};
+ghost use Rattle.agcode_top.specs.Calls.{source_call, TakesAtMost};
 ghost use Rattle.agcode_top.specs.Texts.{IsReadFault, IsFront};
 
 use ag_io::{Filled, Source, fill};
+use code_descriptor::MOST_TEXT;
 use std::alloc::{AllocError, Global};
 
-// The greatest length of a descriptor, and one more: a text that fills it is too large.
-const ROOM: usize = 1_048_577;
+// One byte more than the longest text: a text that fills it is too large.
+const ROOM: usize = MOST_TEXT + 1;
 
 /// Why the text of the descriptor was not read.
 #[derive(Clone, Copy, Debug, PartialEq, Eq)]
@@ -30,9 +31,10 @@ impl From<AllocError> for TextFault {
 
 // Reads to the end of the source, but at most `room` bytes.
 fn read_at_most<D: Source>(alloc: Global, desc: &mut D, room: usize) -> Result<Vec<u8>, TextFault>
-    ensures front { IfOk result (λ text. IsTrue D.tells → IsFront room text.items (D.view desc.old).left (D.view desc.new).left) }
-    ensures fault { IfErr result (IsReadFault (D.view desc.old).faults (D.view desc.new).faults) }
-    ensures taken { IsTrue D.tells → length (D.view desc.old).left ≤ length (D.view desc.new).left + room }
+    ensures front { IfOk result (λ text. IsTrue D.tells →
+        IsFront room text.items (D.view desc.old).left (D.view desc.new).left) }
+    ensures fault { IfErr result (IsReadFault (source_call D.Source desc.old desc.new)) }
+    ensures taken { TakesAtMost room (source_call D.Source desc.old desc.new) }
     ensures counted { (D.view desc.old).faults ≤ (D.view desc.new).faults }
 {
     let mut text = vec![in alloc; 0u8; room]?;
@@ -49,9 +51,10 @@ fn read_at_most<D: Source>(alloc: Global, desc: &mut D, room: usize) -> Result<V
 /// Reads the text of the descriptor, but no more than one byte beyond the greatest length. What is left out changes nothing
 /// of what the text means: it is too large.
 pub fn read_text<D: Source>(alloc: Global, desc: &mut D) -> Result<Vec<u8>, TextFault>
-    ensures text { IfOk result (λ text. IsTrue D.tells → meaning text.items ≡ meaning (D.view desc.old).left) }
-    ensures fault { IfErr result (IsReadFault (D.view desc.old).faults (D.view desc.new).faults) }
-    ensures taken { IsTrue D.tells → length (D.view desc.old).left ≤ length (D.view desc.new).left + 1048577 }
+    ensures text { IfOk result
+        (λ text. IsTrue D.tells → MeansTheSame text.items (D.view desc.old).left) }
+    ensures fault { IfErr result (IsReadFault (source_call D.Source desc.old desc.new)) }
+    ensures taken { TakesAtMost (MOST_TEXT + 1) (source_call D.Source desc.old desc.new) }
     ensures counted { (D.view desc.old).faults ≤ (D.view desc.new).faults }
 {
     read_at_most(alloc, desc, ROOM)

@@ -2,19 +2,18 @@
 
 ghost use Rattle.std.specs.Prelude.{◌≡◌, ℕ, ◌≤◌};
 ghost use Rattle.command_words.specs.declared.words.Command.TheVariants.{Trial};
-ghost use Rattle.code_descriptor.specs.Meaning.{Parts};
-ghost use Rattle.descriptor_code.specs.Codes.{IsDescribed};
-ghost use Rattle.agcode_top.specs.Flows.{gave, Flow};
-ghost use Rattle.agcode_top.specs.Runs.{PlainDid};
+ghost use Rattle.agcode_top.specs.Calls.{sink_call, SourceCall};
+ghost use Rattle.agcode_top.specs.Leaves.{AnswerLeaves};
 
 use crate::status::Status;
 use crate::word::answer;
 use ag_io::Sink;
 use code_trial::trial_text;
-use command_words::Words;
+use command_words::{MOST_TRIAL_BYTES, Words};
 use descriptor_code::DescribedCode;
 use std::alloc::Global;
 use std::thread::Threads;
+use stream_codec::layout_of;
 
 /// Encodes a file that is made from the seed, damages its image within the radius, decodes it, and writes what came of it.
 pub fn trial<X: Threads + Sync, O: Sink>(
@@ -24,23 +23,15 @@ pub fn trial<X: Threads + Sync, O: Sink>(
     described: &DescribedCode,
     out: &mut O,
 ) -> Status
-    requires described { (p : Parts) × IsDescribed p described.now }
-    requires few_bytes { asked.now.bytes ≤ 65536 }
-    ensures did { (p : Parts) (input : Flow) → IsDescribed p described.now → PlainDid asked.now Trial p input
-        (gave O.tells (O.view out.old) (O.view out.new)) result }
+    requires few_bytes { asked.now.bytes ≤ MOST_TRIAL_BYTES }
+    ensures leaves { (input : SourceCall) → AnswerLeaves asked.now Trial described.now input
+        (sink_call O.Sink out.old out.new) result }
     ensures out_counted { (O.view out.old).faults ≤ (O.view out.new).faults }
 {
-    let code = &described.code;
+    let code = described.code();
     let radius = code.radius();
-    match trial_text(
-        rt,
-        alloc,
-        code,
-        radius,
-        described.depth,
-        asked.seed,
-        asked.bytes,
-    ) {
+    let layout = layout_of(code, described.depth(), described.is_packed());
+    match trial_text(rt, alloc, code, &layout, radius, asked.seed, asked.bytes) {
         Ok(text) => answer(out, &text, Status::Done),
         Err(_) => Status::NoMemory,
     }

@@ -3,10 +3,8 @@
 ghost use Rattle.std.specs.Prelude.{◌≡◌, ℕ, ◌≤◌, length, IsTrue};
 ghost use Rattle.command_words.specs.declared.words.Command.TheVariants.{Votes};
 ghost use Rattle.command_words.specs.declared.words.Words.{Words};
-ghost use Rattle.code_descriptor.specs.Meaning.{Parts};
-ghost use Rattle.descriptor_code.specs.Codes.{IsDescribed};
-ghost use Rattle.agcode_top.specs.Flows.{took, gave};
-ghost use Rattle.agcode_top.specs.Runs.{PlainDid};
+ghost use Rattle.agcode_top.specs.Calls.{source_call, sink_call};
+ghost use Rattle.agcode_top.specs.Leaves.{AnswerLeaves};
 
 use crate::status::Status;
 use crate::word::{answer, read_word};
@@ -23,14 +21,13 @@ pub fn votes<I: Source, O: Sink>(
     input: &mut I,
     out: &mut O,
 ) -> Status
-    requires { (p : Parts) × IsDescribed p described.now }
-    ensures did { (w : Words) (p : Parts) → IsDescribed p described.now → PlainDid w Votes p
-        (took I.tells (I.view input.old) (I.view input.new))
-        (gave O.tells (O.view out.old) (O.view out.new)) result }
+    ensures leaves { (w : Words) → AnswerLeaves w Votes described.now
+        (source_call I.Source input.old input.new)
+        (sink_call O.Sink out.old out.new) result }
     ensures input_counted { (I.view input.old).faults ≤ (I.view input.new).faults }
     ensures out_counted { (O.view out.old).faults ≤ (O.view out.new).faults }
 {
-    let code = &described.code;
+    let code = described.code();
     let n = code.n() as usize;
     let Ok(mut bench) = Bench::new(alloc, code) else {
         return Status::NoMemory;

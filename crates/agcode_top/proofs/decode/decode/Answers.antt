@@ -1,15 +1,12 @@
-use Rattle.std.proofs.Common.{arith}
-use Rattle.agcode_top.proofs.StreamLemmas.{decoded, decode-did}
+use Rattle.std.proofs.Common.{◌∙◌, ap}
+use Rattle.agcode_top.proofs.StreamLemmas.{decoded, decode-leaves, same-form, sound-form}
 use Rattle.agcode_top.proofs.decode.decode.Goals as goal
 
-pub new-requires-clause-depth_least : goal.new-requires-clause-depth_least
-new-requires-clause-depth_least g c κs = let d : _ = c.requires.described.1 in omega (arith, d.depth, d.plain.depth_least)
-
-pub new-requires-clause-depth_most : goal.new-requires-clause-depth_most
-new-requires-clause-depth_most g c κs = let d : _ = c.requires.described.1 in omega (arith, d.depth, d.plain.depth_most)
-
-pub returns-clause-did : goal.returns-clause-did
-returns-clause-did g c = λ p d. decode-did p _ _ _ _
-    (decoded p c.args.described.now c.in-Ok.room.layout.depth _ _ _ (record { before = (g.O.Sink.view c.args.out.now).sure; after = (g.O.Sink.view c.decode_stream.new.sink).sure })
-    (record { before = (g.R.Sink.view c.args.report.now).sure; after = (g.R.Sink.view c.decode_stream.new.report).sure }) c.decode_stream.result _ d
-    c.in-Ok.ensures.depth c.status_of.ensures c.decode_stream.ensures.decoded c.decode_stream.ensures.complete)
+pub returns-clause-leaves : goal.returns-clause-leaves
+returns-clause-leaves g c = decode-leaves c.args.described.now _ _ _ _
+    (decoded c.args.described.now _ _ _ _ c.decode_stream.result _
+    (same-form c.args.described.now c.code-code.result.now c.layout_of-layout.result _ c.code-code.ensures.plain c.in-Ok.ensures.layout
+    (c.layout_of-layout.ensures.depth ∙ c.depth.ensures.depth) (c.layout_of-layout.ensures.packed ∙ c.is_packed.ensures))
+    (sound-form c.args.described.now c.code-code.result.now _ c.code-code.ensures.descriptor c.in-Ok.ensures.fits.layout
+    (ap (λ l. l.depth) c.in-Ok.ensures.layout ∙ c.layout_of-layout.ensures.depth ∙ c.depth.ensures.depth))
+    c.status_of.ensures c.decode_stream.ensures.decoded c.decode_stream.ensures.complete)

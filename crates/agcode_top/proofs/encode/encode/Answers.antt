@@ -1,14 +1,10 @@
-use Rattle.std.proofs.Common.{arith}
-use Rattle.agcode_top.proofs.StreamLemmas.{encoded, encode-did}
+use Rattle.std.proofs.Common.{◌∙◌}
+use Rattle.agcode_top.proofs.StreamLemmas.{encoded, encode-leaves, same-form}
 use Rattle.agcode_top.proofs.encode.encode.Goals as goal
 
-pub new-requires-clause-least : goal.new-requires-clause-least
-new-requires-clause-least g c κs = let d : _ = c.requires.1 in omega (arith, d.depth, d.plain.depth_least)
-
-pub new-requires-clause-most : goal.new-requires-clause-most
-new-requires-clause-most g c κs = let d : _ = c.requires.1 in omega (arith, d.depth, d.plain.depth_most)
-
-pub returns-clause-did : goal.returns-clause-did
-returns-clause-did g c = λ p d. encode-did p _ _ _
-    (encoded p c.args.described.now c.in-Ok.room.depth _ _ (record { before = (g.O.Sink.view c.args.out.now).sure; after = (g.O.Sink.view c.encode_stream.new.sink).sure }) c.encode_stream.result _ d
-    c.in-Ok.ensures.depth c.status_of.ensures c.encode_stream.ensures.encoded c.encode_stream.ensures.complete)
+pub returns-clause-leaves : goal.returns-clause-leaves
+returns-clause-leaves g c = encode-leaves c.args.described.now _ _ _
+    (encoded c.args.described.now _ _ _ c.encode_stream.result _
+    (same-form c.args.described.now c.code-code.result.now c.layout_of-layout.result _ c.code-code.ensures.plain c.in-Ok.ensures.layout
+    (c.layout_of-layout.ensures.depth ∙ c.depth.ensures.depth) (c.layout_of-layout.ensures.packed ∙ c.is_packed.ensures))
+    c.status_of.ensures c.encode_stream.ensures.encoded c.encode_stream.ensures.complete)

@@ -1,53 +1,54 @@
-use Rattle.agcode_top.proofs.AnswerLemmas.{run-usage, run-desc_fault, run-input_fault, run-out_fault, run-report_fault, run-descriptor, run-encode, run-repair, run-reading, run-complete, run-answer, run-front, run-quiet, run-early, run-report, run-encoded, run-decoded}
+use Rattle.agcode_top.proofs.AnswerLemmas.{run-usage, run-desc_fault, run-input_fault, run-out_fault, run-report_fault, run-descriptor, run-complete, run-answer, run-part, run-quiet, run-early, run-line}
+use Rattle.agcode_top.proofs.HeadlineLemmas.{run-encode, run-repair, run-reading, run-encoded, run-decoded}
 use Rattle.agcode_top.proofs.top.run.Goals as goal
 
 pub returns-clause-usage : goal.returns-clause-usage
-returns-clause-usage g c = run-usage _ _ _ _ _ _ c.obey-status.ensures.obeyed
+returns-clause-usage g c = run-usage _ _ _ c.obey-status.ensures.leaves
 
 pub returns-clause-desc_fault : goal.returns-clause-desc_fault
-returns-clause-desc_fault g c = run-desc_fault _ _ _ _ _ _ c.obey-status.ensures.obeyed
+returns-clause-desc_fault g c = run-desc_fault _ _ _ c.obey-status.ensures.leaves
 
 pub returns-clause-input_fault : goal.returns-clause-input_fault
-returns-clause-input_fault g c = run-input_fault _ _ _ _ _ _ c.obey-status.ensures.obeyed
+returns-clause-input_fault g c = run-input_fault _ _ _ c.obey-status.ensures.leaves
 
 pub returns-clause-out_fault : goal.returns-clause-out_fault
-returns-clause-out_fault g c = run-out_fault _ _ _ _ _ _ c.obey-status.ensures.obeyed
+returns-clause-out_fault g c = run-out_fault _ _ _ c.obey-status.ensures.leaves
 
 pub returns-clause-report_fault : goal.returns-clause-report_fault
-returns-clause-report_fault g c = run-report_fault _ _ _ _ _ _ _ c.obey-status.ensures.obeyed c.tell.ensures.quiet
+returns-clause-report_fault g c = run-report_fault _ _ _ _ c.obey-status.ensures.leaves c.tell.ensures.quiet
 
 pub returns-clause-descriptor : goal.returns-clause-descriptor
-returns-clause-descriptor g c = λ w k cause e told. run-descriptor _ _ _ _ _ _ c.obey-status.ensures.obeyed w k cause e told
+returns-clause-descriptor g c = run-descriptor _ _ _ c.obey-status.ensures.leaves
 
 pub returns-clause-encode : goal.returns-clause-encode
-returns-clause-encode g c = λ w k e s told it. run-encode _ _ _ _ _ _ c.obey-status.ensures.obeyed w k e s told it
+returns-clause-encode g c = run-encode _ _ _ (g.R.Sink.view c.tell.new.report) c.obey-status.ensures.leaves
 
 pub returns-clause-repair : goal.returns-clause-repair
-returns-clause-repair g c = λ w k e. run-repair _ _ _ _ _ _ _ _ c.obey-status.ensures.obeyed c.obey-status.ensures.report_counted c.tell.ensures.counted c.tell.ensures.given w k e
+returns-clause-repair g c = run-repair _ _ _ (g.R.Sink.view c.tell.new.report) c.obey-status.ensures.leaves c.obey-status.ensures.report_counted c.tell.ensures.counted c.tell.ensures.given
 
 pub returns-clause-reading : goal.returns-clause-reading
-returns-clause-reading g c = λ w k e q told it. run-reading _ _ _ _ _ _ _ _ c.obey-status.ensures.obeyed c.obey-status.ensures.report_counted c.tell.ensures.given w k e q told it
+returns-clause-reading g c = run-reading _ _ _ (g.R.Sink.view c.tell.new.report) c.obey-status.ensures.leaves c.obey-status.ensures.report_counted c.tell.ensures.given
 
 pub returns-clause-complete : goal.returns-clause-complete
-returns-clause-complete g c = λ w k. run-complete _ _ _ _ _ _ (g.R.Sink.view c.tell.new.report).given _ c.obey-status.ensures.obeyed c.obey-status.ensures.report_counted c.tell.ensures.counted w k
+returns-clause-complete g c = run-complete _ _ _ (g.R.Sink.view c.tell.new.report) c.obey-status.ensures.leaves c.obey-status.ensures.report_counted c.tell.ensures.counted
 
 pub returns-clause-answer : goal.returns-clause-answer
-returns-clause-answer g c = λ w k e q told it. run-answer _ _ _ _ _ _ c.obey-status.ensures.obeyed w k e q told it
+returns-clause-answer g c = run-answer _ _ _ (g.R.Sink.view c.tell.new.report) c.obey-status.ensures.leaves
 
-pub returns-clause-front : goal.returns-clause-front
-returns-clause-front g c = λ w k e s told it. run-front _ _ _ _ _ _ c.obey-status.ensures.obeyed w k e s told it
+pub returns-clause-part : goal.returns-clause-part
+returns-clause-part g c = run-part _ _ _ (g.R.Sink.view c.tell.new.report) c.obey-status.ensures.leaves
 
 pub returns-clause-quiet : goal.returns-clause-quiet
-returns-clause-quiet g c = λ w k q. run-quiet _ _ _ _ _ _ c.obey-status.ensures.obeyed w k q
+returns-clause-quiet g c = run-quiet _ _ _ c.obey-status.ensures.leaves
 
 pub returns-clause-early : goal.returns-clause-early
-returns-clause-early g c = λ q. run-early _ _ _ _ _ _ c.obey-status.ensures.obeyed q
+returns-clause-early g c = run-early _ _ _ c.obey-status.ensures.leaves
 
-pub returns-clause-report : goal.returns-clause-report
-returns-clause-report g c = λ n told. run-report _ _ _ _ _ _ _ _ c.obey-status.ensures.obeyed c.obey-status.ensures.report_counted c.tell.ensures.given n told
+pub returns-clause-line : goal.returns-clause-line
+returns-clause-line g c = run-line _ _ _ (g.R.Sink.view c.tell.new.report) c.obey-status.ensures.leaves c.obey-status.ensures.report_counted c.tell.ensures.given
 
 pub returns-clause-encoded : goal.returns-clause-encoded
-returns-clause-encoded g c = λ w k e q told. run-encoded _ _ _ _ _ _ c.obey-status.ensures.obeyed w k e q told
+returns-clause-encoded g c = run-encoded _ _ _ (g.R.Sink.view c.tell.new.report) c.obey-status.ensures.leaves
 
 pub returns-clause-decoded : goal.returns-clause-decoded
-returns-clause-decoded g c = λ w k e q told. run-decoded _ _ _ _ _ _ _ _ c.obey-status.ensures.obeyed c.tell.ensures.counted c.tell.ensures.given w k e q told
+returns-clause-decoded g c = run-decoded _ _ _ (g.R.Sink.view c.tell.new.report) c.obey-status.ensures.leaves c.tell.ensures.counted c.tell.ensures.given

@@ -1,13 +1,14 @@
-use Rattle.std.proofs.Common.{arith}
+use Rattle.std.proofs.Common.{◌∙◌, ap₂, refl}
+use Rattle.code_trial.specs.Trials.{trial_text_of}
+use Rattle.agcode_top.proofs.StreamLemmas.{same-form}
 use Rattle.agcode_top.proofs.WordLemmas.{trial-has}
 use Rattle.agcode_top.proofs.trial.trial.Goals as goal
 
-pub trial_text-requires-clause-least : goal.trial_text-requires-clause-least
-trial_text-requires-clause-least g c κs = let d : _ = c.requires.described.1 in omega (arith, d.depth, d.plain.depth_least)
-
-pub trial_text-requires-clause-most : goal.trial_text-requires-clause-most
-trial_text-requires-clause-most g c κs = let d : _ = c.requires.described.1 in omega (arith, d.depth, d.plain.depth_most)
-
-pub returns-in-Ok-clause-did : goal.returns-in-Ok-clause-did
-returns-in-Ok-clause-did g c = λ p input d.
-    trial-has _ p c.args.described.now c.radius-radius.result input _ c.in-Ok.text.items _ _ d c.radius-radius.ensures.value c.in-Ok.ensures c.deref.ensures.value c.answer.ensures.given
+pub returns-in-Ok-clause-leaves : goal.returns-in-Ok-clause-leaves
+returns-in-Ok-clause-leaves g c = λ input.
+    trial-has _ c.args.described.now input _ c.in-Ok.text.items _ _
+    (c.in-Ok.ensures ∙ ap₂ (λ F t. trial_text_of F t c.args.asked.now.seed c.args.asked.now.bytes)
+    (same-form c.args.described.now c.code-code.result.now c.layout_of-layout.result _ c.code-code.ensures.plain refl
+    (c.layout_of-layout.ensures.depth ∙ c.depth.ensures.depth) (c.layout_of-layout.ensures.packed ∙ c.is_packed.ensures))
+    (c.radius-radius.ensures.value ∙ c.code-code.ensures.plain.radius_is))
+    c.deref.ensures.value c.answer.ensures.given
