@@ -9,12 +9,7 @@ use std::test::Fail;
 use std::thread::Threads;
 
 // n, k, the number of checks, the bound and t of the code that so many workers compile.
-fn numbers<X: Threads + Sync>(
-    rt: &X,
-    alloc: Global,
-    desc: &str,
-    workers: u32,
-) -> Option<[u32; 5]> {
+fn numbers<X: Threads + Sync>(rt: &X, alloc: Global, desc: &str, workers: u32) -> Option<[u32; 5]> {
     let workers = Workers::new(workers)?;
     let descriptor = read(alloc, desc.as_bytes()).ok()?;
     if descriptor.points().is_empty() {

@@ -32,7 +32,8 @@ fn assert_met<X: Threads + Sync>(
 
 #[test]
 fn fewer_checks_for_one_change(rt: HostRuntime) -> Result<(), Fail> {
-    let params = b"n 8\nk 5\nchecks 3\nbound 3\nt 1\nlabels 0 2 3 4 5 6 7 9\nchecked 0 2 3\nrelation 3:1 6:1\n";
+    let params =
+        b"n 8\nk 5\nchecks 3\nbound 3\nt 1\nlabels 0 2 3 4 5 6 7 9\nchecked 0 2 3\nrelation 3:1 6:1\n";
     let rows = [
         done("params D", HERMITIAN_4, &[], params),
         done("encode D", HERMITIAN_4, &[], &EMPTY),

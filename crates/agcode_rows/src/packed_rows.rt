@@ -31,8 +31,7 @@ fn read<'a>(line: &'a str, text: &'a [u8], report: &'a str) -> Row<'a> {
 
 #[test]
 fn four_symbols_to_the_byte(rt: HostRuntime) -> Result<(), Fail> {
-    let report =
-        "changed 0 0 2 01 00\nchanged 0 0 3 00 02\ndone bytes 0 groups 1 changed 2\n";
+    let report = "changed 0 0 2 01 00\nchanged 0 0 3 00 02\ndone bytes 0 groups 1 changed 2\n";
     let rows = [
         done("encode D", HERMITIAN_4, &[], &[0x82, 0xd8]),
         read("decode D", &[0x84, 0xd8], report),
@@ -53,7 +52,12 @@ fn four_symbols_to_the_byte(rt: HostRuntime) -> Result<(), Fail> {
 fn words_and_tables_are_the_same(rt: HostRuntime) -> Result<(), Fail> {
     let beyond = Status::Beyond { group: 0, word: 0 };
     let rows = [
-        done("member D", HERMITIAN_4, &[1, 0, 0, 1, 2, 3, 1, 0], b"codeword\n"),
+        done(
+            "member D",
+            HERMITIAN_4,
+            &[1, 0, 0, 1, 2, 3, 1, 0],
+            b"codeword\n",
+        ),
         done(
             "votes D",
             HERMITIAN_4,
@@ -120,7 +124,13 @@ fn a_layout_is_refused(rt: HostRuntime) -> Result<(), Fail> {
     ];
     for (layout, cause, told) in cases {
         let text = format!(in rt.alloc(); "depth = 1\nlayout = {layout}")?;
-        let row = stopped("params D", HERMITIAN_4, &[], Status::Descriptor { cause }, told);
+        let row = stopped(
+            "params D",
+            HERMITIAN_4,
+            &[],
+            Status::Descriptor { cause },
+            told,
+        );
         let met = is_met_with(&rt, rt.alloc(), &row, "depth = 1", text.as_str())?;
         assert!(rt; met, "{layout}");
     }
