@@ -27,7 +27,8 @@ pub struct CabDomain {
     x_lead: u8,
     y_lead: u8,
     ghost is_curve: { IsCurve curve },
-    ghost tables: { IsFunctionTable curve.a curve.b (top_of curve) functions.rows.items functions.places.items },
+    ghost tables: { IsFunctionTable curve.a curve.b (top_of curve)
+        functions.rows.items functions.places.items },
     ghost x_lead_is: { x_lead ≡ coefficient curve.terms curve.b 0 },
     ghost y_lead_is: { y_lead ≡ coefficient curve.terms 0 curve.a },
 }
@@ -60,7 +61,8 @@ impl CabDomain {
     // Function i.
     fn row(&self, i: u32) -> Function
         requires { i < function_count self.now.curve.a self.now.curve.b (top_of self.now.curve) }
-        ensures row { IsFunctionRow self.now.curve.a self.now.curve.b (top_of self.now.curve) i result }
+        ensures row { let c = self.now.curve in
+            IsFunctionRow c.a c.b (top_of c) i result }
         ensures top { top_of self.now.curve < 10000 }
     {
         self.functions.rows[i as usize]

@@ -134,7 +134,8 @@ impl BlockCode for SmallCode {
 fn search(words: &[[u8; 8]], got: &[u8], word: &mut [u8]) -> Verdict
     requires got_long { length got.now ≡ 8 }
     requires word_long { length word.old ≡ 8 }
-    ensures word { word.new ≡ unwrap_or (first_within 2 words.now got.now) (map (λ b. b % 4) got.now) }
+    ensures word { word.new
+        ≡ unwrap_or (first_within 2 words.now got.now) (map (λ b. b % 4) got.now) }
     ensures verdict { result ≡ verdict_by got.now (first_within 2 words.now got.now) }
 {
     for candidate in words {
