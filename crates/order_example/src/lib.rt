@@ -18,6 +18,8 @@ pub fn small_errors_vote()
 {}
 
 #[cfg(test)]
+mod designs;
+#[cfg(test)]
 mod grown;
 #[cfg(test)]
 mod rig;

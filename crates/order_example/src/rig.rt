@@ -28,8 +28,8 @@ fn listed(alloc: Global, points: &[Point]) -> Option<Points> {
     Points::of(points.to_vec(alloc).ok()?)
 }
 
-// The basis of the domain at these points, where they are distinct and points of it.
-fn built<X: Threads + Sync, F: Field + Sync, D: OrderDomain>(
+/// The basis of the domain at these points, where they are distinct and points of it.
+pub fn built<X: Threads + Sync, F: Field + Sync, D: OrderDomain>(
     rt: &X,
     alloc: Global,
     f: F,
