@@ -1,9 +1,11 @@
 //! Codes of a small descriptor, whose numbers were worked by hand.
 
+ghost use Rattle.std.specs.Prelude.{ℕ, ◌≤◌, length, IfSome};
+
 use super::DescribedCode;
 use ag_pool::Workers;
 use block_code::CompileFault;
-use code_descriptor::read;
+use code_descriptor::{Descriptor, read};
 use order_domain::OrderDomain;
 use std::alloc::Global;
 use std::test::Fail;
@@ -13,40 +15,91 @@ use std::thread::Threads;
 const CURVE: &str =
     "bits = 2\nmodulus = 7\na = 2\nb = 3\nterms = [[0, 2, 1], [0, 1, 1], [3, 0, 1]]\npoints = [[0, 0], [0, 1], [1, 2], [1, 3], [2, 2], [2, 3], [3, 2], [3, 3]]\ndepth = 4\n";
 
-// What compiling answers for a rule, which is a line of the text.
-fn compiled<X: Threads + Sync>(
-    rt: &X,
-    alloc: Global,
-    rule: &str,
-) -> Option<Result<DescribedCode, CompileFault>> {
+// The descriptor with a rule, which is a line of the text.
+fn described(alloc: Global, rule: &str) -> Option<Descriptor>
+    ensures { IfSome result (λ d. 1 ≤ length d.points) }
+{
     let text = format!(in alloc; "{CURVE}{rule}\n").ok()?;
     let descriptor = read(alloc, text.as_bytes()).ok()?;
     if descriptor.points().len() == 0 {
         return None;
     }
-    let two = Workers::new(2)?;
-    Some(DescribedCode::compile(rt, alloc, descriptor, two))
+    Some(descriptor)
 }
 
-// n, k, the order bound and the radius of the code of a rule.
-fn numbers_of<X: Threads + Sync>(
+// What compiling answers for a rule.
+fn compiled<X: Threads + Sync>(
     rt: &X,
     alloc: Global,
     rule: &str,
-) -> Option<(u32, u32, u32, u32)> {
-    let made = compiled(rt, alloc, rule)?.ok()?;
-    let code = made.code();
-    Some((code.n(), code.k(), code.bound(), code.radius()))
+) -> Option<Result<DescribedCode, CompileFault>> {
+    let descriptor = described(alloc, rule)?;
+    Some(DescribedCode::compile(rt, alloc, descriptor, Workers::ONE))
 }
 
-// The labels of the checked members.
-fn checked_of<X: Threads + Sync>(rt: &X, alloc: Global, rule: &str) -> Option<Vec<u32>> {
-    compiled(rt, alloc, rule)?.ok()?.checked_labels(alloc).ok()
+fn code_of<X: Threads + Sync>(rt: &X, alloc: Global, rule: &str) -> Option<DescribedCode> {
+    compiled(rt, alloc, rule)?.ok()
+}
+
+// n, k, the order bound and the radius.
+fn numbers(made: &DescribedCode) -> (u32, u32, u32, u32) {
+    let code = made.code();
+    (code.n(), code.k(), code.bound(), code.radius())
+}
+
+// Whether the code of a rule has these numbers.
+fn has_numbers<X: Threads + Sync>(
+    rt: &X,
+    alloc: Global,
+    rule: &str,
+    expected: (u32, u32, u32, u32),
+) -> bool {
+    match code_of(rt, alloc, rule) {
+        Some(made) => numbers(&made) == expected,
+        None => false,
+    }
+}
+
+// Whether a rule leaves no member free.
+fn is_full<X: Threads + Sync>(rt: &X, alloc: Global, rule: &str) -> bool {
+    match compiled(rt, alloc, rule) {
+        Some(Err(CompileFault::NothingFree)) => true,
+        _ => false,
+    }
+}
+
+// Whether these are the labels of the members and of the checked ones.
+fn has_labels<X: Threads + Sync>(
+    rt: &X,
+    alloc: Global,
+    rule: &str,
+    labels: &[u32],
+    checked: &[u32],
+) -> bool {
+    let Some(made) = code_of(rt, alloc, rule) else {
+        return false;
+    };
+    match (made.labels(alloc), made.checked_labels(alloc)) {
+        (Ok(all), Ok(some)) => all.as_slice() == labels && some.as_slice() == checked,
+        _ => false,
+    }
+}
+
+// The depth, the layout, the functions, the bits and the points.
+fn kept(made: &DescribedCode) -> (u32, bool, u32, u32, usize) {
+    let domain = made.domain();
+    (
+        made.depth(),
+        made.is_packed(),
+        domain.count(),
+        domain.bits(),
+        made.points().len(),
+    )
 }
 
 // The members are 0, 2, 3, 4, 5, 6, 7 and 9, and they have 1, 2, 2, 3, 4, 5, 6 and 8 pairs.
 #[test]
-fn compiles_a_descriptor(rt: HostRuntime) -> Result<(), Fail> {
+fn compiles_a_descriptor(rt: HostRuntime) {
     let alloc = rt.alloc();
     let cases = [
         ("weight = 0", (8, 7, 2, 0)),
@@ -56,47 +109,25 @@ fn compiles_a_descriptor(rt: HostRuntime) -> Result<(), Fail> {
         ("improved = 3", (8, 5, 3, 1)),
     ];
     for (rule, numbers) in cases {
-        assert_eq!(rt; numbers_of(&rt, alloc, rule), Some(numbers));
+        assert!(rt; has_numbers(&rt, alloc, rule, numbers));
     }
-    Ok(())
+    assert!(rt; is_full(&rt, alloc, "weight = 9"));
+    assert!(rt; is_full(&rt, alloc, "improved = 9"));
 }
 
 #[test]
-fn leaves_no_member_free(rt: HostRuntime) -> Result<(), Fail> {
+fn checks_by_either_rule(rt: HostRuntime) {
     let alloc = rt.alloc();
-    for rule in ["weight = 9", "improved = 9"] {
-        let all = compiled(&rt, alloc, rule).ok_or("no descriptor")?;
-        assert_eq!(rt; all.err(), Some(CompileFault::NothingFree));
-    }
-    Ok(())
-}
-
-#[test]
-fn checks_by_either_rule(rt: HostRuntime) -> Result<(), Fail> {
-    let alloc = rt.alloc();
-    let by_weight = checked_of(&rt, alloc, "weight = 5").ok_or("no code")?;
-    assert_eq!(rt; by_weight.as_slice(), &[0, 2, 3, 4, 5][..]);
-    let by_pairs = checked_of(&rt, alloc, "improved = 3").ok_or("no code")?;
-    assert_eq!(rt; by_pairs.as_slice(), &[0, 2, 3][..]);
-    let none = checked_of(&rt, alloc, "improved = 0").ok_or("no code")?;
-    assert!(rt; none.is_empty());
-    Ok(())
+    let all = [0, 2, 3, 4, 5, 6, 7, 9];
+    assert!(rt; has_labels(&rt, alloc, "weight = 5", &all, &[0, 2, 3, 4, 5]));
+    assert!(rt; has_labels(&rt, alloc, "improved = 3", &all, &[0, 2, 3]));
+    assert!(rt; has_labels(&rt, alloc, "improved = 0", &all, &[]));
 }
 
 #[test]
 fn keeps_what_it_was_described_by(rt: HostRuntime) -> Result<(), Fail> {
-    let alloc = rt.alloc();
-    let made = compiled(&rt, alloc, "weight = 5")
-        .ok_or("no descriptor")?
-        .ok()
-        .ok_or("no code")?;
-    assert_eq!(rt; (made.depth(), made.is_packed()), (4, false));
-    assert_eq!(rt; (made.domain().count(), made.domain().bits()), (9, 2));
-    assert_eq!(rt; made.points().len(), 8);
-    assert_eq!(rt;
-        made.labels(alloc)?.as_slice(),
-        &[0, 2, 3, 4, 5, 6, 7, 9][..]
-    );
+    let made = code_of(&rt, rt.alloc(), "weight = 5").ok_or("no code")?;
+    assert!(rt; kept(&made) == (4, false, 9, 2, 8));
     let relation = made.relation().terms();
     assert_eq!(rt; relation.len(), 2);
     for (term, expected) in relation.iter().zip([(3, 1), (6, 1)]) {
