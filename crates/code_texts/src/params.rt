@@ -65,7 +65,7 @@ pub fn params_text(
     requires { length checked.now ≤ numbers.n }
     ensures { IfOk result (λ text. text.items
         ≡ params_text_of numbers.n labels.now checked.now
-            numbers.bound numbers.radius relation.now) }
+        numbers.bound numbers.radius relation.now) }
 {
     let Parameters { n, bound, radius } = numbers;
     let mut text = Vec::new(alloc);
