@@ -8,6 +8,10 @@ use Rattle.std.proofs.lemmas.List.{drop-set, length-set, length-drop, append-nil
 pub twenty_digits : (v : ℕ) → v < 2 ^ 64 → length (decimal v) ≤ 20
 twenty_digits v small = length-decimal-le 20 v (omega arith) (omega arith) small
 
+-- no number of 32 bits has more than ten digits
+pub ten_digits : (v : ℕ) → v < 2 ^ 32 → length (decimal v) ≤ 10
+ten_digits v small = length-decimal-le 10 v (omega arith) (omega arith) (omega arith)
+
 -- the digits of v are those of `rest`, and then those that stand from `at` on
 pub record IsWriting (v rest at : ℕ) (digits : List ℕ) : Type 0 where
   pub text : decimal v ≡ decimal rest ++ drop at digits

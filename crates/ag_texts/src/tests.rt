@@ -1,8 +1,9 @@
 //! Each line of the printed forms, byte for byte, and the numbers that lines are read as.
 
 use crate::{
-    LineBuf, beyond_line, changed_line, done_line, line_end, number_line, plain_line, point_line,
-    read_number, votes_line,
+    LineBuf, beyond_line, changed_line, done_line, filled_line, line_end, lost_line, number_line,
+    plain_line, plan_line, point_line, point1_line, point3_line, read_number, salvaged_line,
+    stop_line, votes_line,
 };
 
 #[test]
@@ -48,6 +49,46 @@ fn lines_with_numbers(rt: HostRuntime) {
     assert_eq!(rt; buf.bytes(), b"[0, 255],\n".as_slice());
     votes_line(&mut buf, 6, 5, 2, 1);
     assert_eq!(rt; buf.bytes(), b"6 5 2 1\n".as_slice());
+}
+
+#[test]
+fn lines_of_points(rt: HostRuntime) {
+    let mut buf = LineBuf::new();
+    point1_line(&mut buf, 255);
+    assert_eq!(rt; buf.bytes(), b"[255],\n".as_slice());
+    point3_line(&mut buf, 0, 7, 255);
+    assert_eq!(rt; buf.bytes(), b"[0, 7, 255],\n".as_slice());
+}
+
+#[test]
+fn lines_of_plans(rt: HostRuntime) {
+    let mut buf = LineBuf::new();
+    plan_line(&mut buf, "order weight", 5, 5, 5);
+    assert_eq!(rt;
+        buf.bytes(),
+        b"order weight 5 checks 5 bound 5\n".as_slice()
+    );
+    plan_line(&mut buf, "improved pairs", 4294967295, 1024, 0);
+    assert_eq!(rt;
+        buf.bytes(),
+        b"improved pairs 4294967295 checks 1024 bound 0\n".as_slice()
+    );
+    stop_line(&mut buf, 5, 4);
+    assert_eq!(rt; buf.bytes(), b"stop 5 4\n".as_slice());
+}
+
+#[test]
+fn lines_of_lost_words(rt: HostRuntime) {
+    let mut buf = LineBuf::new();
+    filled_line(&mut buf, 1023, 0x0f);
+    assert_eq!(rt; buf.bytes(), b"filled 1023 0f\n".as_slice());
+    lost_line(&mut buf, 4, 63);
+    assert_eq!(rt; buf.bytes(), b"lost 4 63\n".as_slice());
+    salvaged_line(&mut buf, 2000, 3, 1200, 18446744073709551615);
+    assert_eq!(rt;
+        buf.bytes(),
+        b"salvaged bytes 2000 groups 3 changed 1200 lost 18446744073709551615\n".as_slice()
+    );
 }
 
 #[test]
