@@ -1,0 +1,3 @@
+pub mod Homogeneous
+pub mod Solved
+pub mod Scanning
