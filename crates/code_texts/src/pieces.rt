@@ -36,6 +36,25 @@ pub fn push_field(text: &mut Vec<u8>, line: &mut LineBuf, v: u32) -> Result<(), 
 
 /// Adds a space and two numbers with a colon between them.
 #[tactic(auto, using(ag_texts::proofs::Digits::twenty_digits))]
+pub fn push_pair(
+    text: &mut Vec<u8>,
+    line: &mut LineBuf,
+    first: u32,
+    second: u32,
+) -> Result<(), AllocError>
+    ensures { IfOk result (λ _. text.new.items
+        ≡ text.old.items ++ 32 ∷ (decimal first ++ codes ":" ++ decimal second)) }
+{
+    line.clear();
+    line.word(" ");
+    line.number(u64::from(first));
+    line.word(":");
+    line.number(u64::from(second));
+    text.extend_from_slice(line.bytes())?;
+    Ok(())
+}
+
+/// Adds a space and a term: its weight and its coefficient, with a colon between them.
 pub fn push_term(
     text: &mut Vec<u8>,
     line: &mut LineBuf,
@@ -45,11 +64,5 @@ pub fn push_term(
     ensures { IfOk result (λ _. text.new.items
         ≡ text.old.items ++ 32 ∷ (decimal weight ++ codes ":" ++ decimal c)) }
 {
-    line.clear();
-    line.word(" ");
-    line.number(u64::from(weight));
-    line.word(":");
-    line.number(u64::from(c));
-    text.extend_from_slice(line.bytes())?;
-    Ok(())
+    push_pair(text, line, weight, u32::from(c))
 }

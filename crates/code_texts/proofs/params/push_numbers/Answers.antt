@@ -1,4 +1,4 @@
-use Rattle.std.proofs.Common.{◌∙◌, ap, rules, ◌++◌, ℕ, List, map, codes, length, ◌≤◌}
+use Rattle.std.proofs.Common.{◌∙◌, ap, rules, ◌++◌, ℕ, List, map, length, ◌≤◌}
 use Rattle.std.proofs.lemmas.List.{take_all}
 use Rattle.std.specs.Fmt.{decimal}
 use Rattle.code_texts.proofs.Lines.{spaced, line-spaced}
