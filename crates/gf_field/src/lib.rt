@@ -2,14 +2,18 @@
 //! 2^m, m from 2 to 8, whose bits are the coefficients of a polynomial over GF(2). Start at the trait.
 #![tactic(auto)]
 
+mod multiples;
 mod polynomial;
 
 ghost use Rattle.std.specs.Prelude.{◌≡◌, ℕ, ◌<◌, ◌≤◌, ◌^◌, ◌≢◌, bit_xor, MatchOption};
 ghost use Rattle.field_theory.specs.Field.{IsField};
 ghost use Rattle.gf_theory.specs.Field.{gf_mul, IsModulus};
 ghost use Rattle.gf_theory.specs.Laws.{SumLaws, ProductLaws, FieldLaws};
+ghost use Rattle.gf_field.specs.Multiples.{AreMultiples};
 
 use gf_theory::{irreducible_gives_field, polynomials_are_a_ring, product_is_unique};
+pub use multiples::Multiples;
+use multiples::{high_multiples, low_multiples};
 use polynomial::{is_irreducible, product};
 
 /// A finite field of characteristic 2, given by its bits m and its modulus p: the numbers below 2^m, with the exclusive or
@@ -51,6 +55,11 @@ pub trait Field: Drop {
         requires nonzero { 0 < x }
         ensures inverse { gf_mul (bits_of self.now) (modulus_of self.now) x result ≡ 1 }
         ensures result_element { result < 2 ^ bits_of self.now };
+
+    /// The tables of the products of c, for row operations. A field with tables has them ready.
+    fn multiples(&self, c: u8) -> Multiples
+        requires { c < 2 ^ bits_of self.now }
+        ensures { AreMultiples (bits_of self.now) (modulus_of self.now) c result.low result.high };
 
     ghost is_modulus: { (f : Self) → IsModulus (bits_of f) (modulus_of f) };
 }
@@ -121,6 +130,13 @@ impl Field for PolyField {
         }
         y
     }
+
+    fn multiples(&self, c: u8) -> Multiples {
+        Multiples {
+            low: low_multiples(self, c),
+            high: high_multiples(self, c),
+        }
+    }
 }
 
 #[cfg(test)]
@@ -144,6 +160,9 @@ mod tests {
         assert_eq!(rt; f.add(0x57, 0x83), 0xd4);
         assert_eq!(rt; f.bits(), 8);
         assert_eq!(rt; f.modulus(), 283);
+        // 83 is 80 and 3
+        let multiples = f.multiples(0x57);
+        assert_eq!(rt; multiples.high[8] ^ multiples.low[3], 0xc1);
     }
 
     #[test]
@@ -151,6 +170,9 @@ mod tests {
         let f = PolyField::new(4, 19).expect(&rt, "irreducible");
         assert_eq!(rt; f.mul(2, 9), 1);
         field_axioms(&f);
+        let multiples = f.multiples(2);
+        assert_eq!(rt; multiples.low[9], 1);
+        assert_eq!(rt; multiples.high[0], 0);
     }
 
     #[test]

@@ -1,7 +1,7 @@
 //! Products and multiples of lists, since a product is linear in each bit of a factor. A product of two lists is made by a
 //! pass over them for each bit of a symbol: the pass has no product in it, only a choice, and runs many symbols at a time.
-//! For a multiple the products of the factor stand in two tables of 16, by the low four bits of a symbol and by the others,
-//! and 16 symbols are looked up at once.
+//! For a multiple the field has the products of the factor in two tables of 16, by the low four bits of a symbol and by the
+//! others, and 16 symbols are looked up at once.
 
 ghost use Rattle.std.specs.Prelude.{◌≡◌, ℕ, ◌+◌, ◌*◌, ◌/◌, ◌%◌, ◌<◌, ◌≤◌, ◌^◌, length, slice_index, bit_xor, All};
 ghost use Rattle.field_theory.specs.Sums.{xor_sum};
@@ -9,7 +9,7 @@ ghost use Rattle.linear_theory.specs.Linear.{dot as dot_of};
 ghost use Rattle.gf_theory.specs.Field.{gf_mul};
 ghost use Rattle.gf_linear.specs.Nibbles.{looked_up};
 
-use gf_field::Field;
+use gf_field::{Field, Multiples};
 use std::simd::prelude::*;
 
 /// The sum of the products of two lists of symbols, place by place. It makes one product for each bit of a symbol.
@@ -29,8 +29,7 @@ pub fn dot<F: Field>(f: &F, x: &[u8], y: &[u8]) -> u8
     sum
 }
 
-/// Adds `c` times `src` to `dst`, place by place. It makes a product for each value of the low four bits of a symbol, and
-/// one for each of the bits above them.
+/// Adds `c` times `src` to `dst`, place by place, by the field's tables of the multiples of c.
 pub fn add_scaled<F: Field>(f: &F, dst: &mut [u8], c: u8, src: &[u8])
     requires same { length dst.old ≡ length src.now }
     requires factor { c < 2 ^ F.bits_of f.now }
@@ -44,8 +43,7 @@ pub fn add_scaled<F: Field>(f: &F, dst: &mut [u8], c: u8, src: &[u8])
     if c == 0 {
         return;
     }
-    let low = low_multiples(f, c);
-    let high = high_multiples(f, c);
+    let Multiples { low, high } = f.multiples(c);
     add_multiples(dst, &low, &high, src);
 }
 
@@ -69,36 +67,6 @@ fn sum_where(x: &[u8], bit: u32, y: &[u8]) -> u8
         sum ^= chosen(x[p], bit, y[p]);
     }
     sum
-}
-
-// The products of c and the symbols below 16.
-fn low_multiples<F: Field>(f: &F, c: u8) -> [u8; 16]
-    requires { c < 2 ^ F.bits_of f.now }
-    ensures length { length result ≡ 16 }
-    ensures products { (i : ℕ) → i < 16 → i < 2 ^ F.bits_of f.now →
-        slice_index result i ≡ gf_mul (F.bits_of f.now) (F.modulus_of f.now) c i }
-{
-    let mut table = [0; 16];
-    let count = (1usize << f.bits()).min(16);
-    for i in 0..count {
-        table[i] = f.mul(c, i as u8);
-    }
-    table
-}
-
-// The products of c and the multiples of 16 that are symbols.
-fn high_multiples<F: Field>(f: &F, c: u8) -> [u8; 16]
-    requires { c < 2 ^ F.bits_of f.now }
-    ensures length { length result ≡ 16 }
-    ensures products { (i : ℕ) → i * 16 < 2 ^ F.bits_of f.now →
-        slice_index result i ≡ gf_mul (F.bits_of f.now) (F.modulus_of f.now) c (i * 16) }
-{
-    let mut table = [0; 16];
-    let size = 1usize << f.bits();
-    for i in 0..(size + 15) / 16 {
-        table[i] = f.mul(c, (i * 16) as u8);
-    }
-    table
 }
 
 // Adds to each byte of `dst` what the tables give for that of `src`.

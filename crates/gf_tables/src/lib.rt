@@ -5,9 +5,9 @@
 
 ghost use Rattle.std.specs.Prelude.{◌≡◌, ℕ, ◌<◌, ◌^◌, List, IfOk};
 ghost use Rattle.gf_theory.specs.Field.{IsModulus};
-ghost use Rattle.gf_tables.specs.Tables.{IsRow, AreProducts, AreInverses};
+ghost use Rattle.gf_tables.specs.Tables.{IsRow, AreProducts, AreInverses, AreTables};
 
-use gf_field::{Field, PolyField};
+use gf_field::{Field, Multiples, PolyField};
 use std::alloc::{AllocError, Global};
 
 /// A finite field of 2^2 to 2^8 elements with tables of its products and inverses.
@@ -18,9 +18,12 @@ pub struct TableField {
     // row x has the product of x and y at place y
     products: Vec<[u8; 256]>,
     inverses: [u8; 256],
+    // those of c at place c
+    multiples: Vec<Multiples>,
     ghost is_modulus: { IsModulus bits modulus },
     ghost has_products: { AreProducts bits modulus products.items },
     ghost has_inverses: { AreInverses bits modulus inverses },
+    ghost has_multiples: { AreTables bits modulus multiples.items },
 }
 
 impl TableField {
@@ -34,6 +37,7 @@ impl TableField {
             modulus: field.modulus(),
             products: products_of(alloc, field)?,
             inverses: inverses_of(field),
+            multiples: multiples_of(alloc, field)?,
         })
     }
 }
@@ -63,6 +67,10 @@ impl Field for TableField {
 
     fn inv(&self, x: u8) -> u8 {
         self.inverses[usize::from(x)]
+    }
+
+    fn multiples(&self, c: u8) -> Multiples {
+        self.multiples[usize::from(c)]
     }
 }
 
@@ -109,6 +117,18 @@ fn inverses_of(field: &PolyField) -> [u8; 256]
     inverses
 }
 
+// The multiples of each element.
+fn multiples_of(alloc: Global, field: &PolyField) -> Result<Vec<Multiples>, AllocError>
+    ensures { IfOk result (λ v. AreTables field.now.bits field.now.modulus v.items) }
+{
+    let size = size_of(field);
+    let mut tables = Vec::with_capacity(alloc, size)?;
+    for c in 0..size {
+        tables.push(field.multiples(c as u8))?;
+    }
+    Ok(tables)
+}
+
 #[cfg(test)]
 mod tests {
     use super::*;
@@ -133,6 +153,9 @@ mod tests {
         let f = TableField::new(rt.alloc(), &aes)?;
         assert_eq!(rt; f.mul(0x57, 0x83), 0xc1);
         assert_eq!(rt; f.inv(0x53), 0xca);
+        // 83 is 80 and 3
+        let multiples = f.multiples(0x57);
+        assert_eq!(rt; multiples.high[8] ^ multiples.low[3], 0xc1);
         field_axioms(&f);
         Ok(())
     }

@@ -15,6 +15,7 @@ use Rattle.order_theory.specs.Basis.{Basis, IsSpannedBelow, HasLead, HasSums, ra
 use Rattle.order_theory.specs.Domains.{IsOrdered, HasMembers}
 use Rattle.order_theory.specs.Laws.{OriginLaw, SoundLaw}
 use Rattle.order_theory.proofs.Members.{pairs_members}
+use Rattle.order_theory.proofs.OldSums.{old_sum}
 use Rattle.order_theory.proofs.Shape.{cases_value}
 
 one_pair : (n : ℕ) (f : ℕ → ℕ → ℕ) (s i j : ℕ) → i < n → j < n → f i j ≡ s → 1 ≤ pairs n f s
@@ -138,28 +139,6 @@ module _ (mul : ℕ → ℕ → ℕ) (b : Basis) (field : IsField (2 ^ b.bits) m
         (combination_same (2 ^ b.bits) mul field (product mul b i j) (combination_xor (2 ^ b.bits) mul field rest last)
         (λ p l. xor_back (mul (ev (rank_at b i) p) (ev (rank_at b j) p)) (mul (lead' (rank_at b i) (rank_at b j)) (ev (sum (rank_at b i) (rank_at b j)) p)) ∙ sym (product_is i j p li lj l))))
 
-    -- a combination of the functions before r, times function j
-    times_function : (r s j : ℕ) (v : ℕ → ℕ) → ((u : ℕ) → u < r → IsCombination mul b.n ev s (λ p. mul (ev u p) (ev j p))) → IsCombination mul b.n ev r v → IsCombination mul b.n ev s (λ p. mul (v p) (ev j p))
-    times_function zero s j v all h = combination_zero (2 ^ b.bits) mul field b.n ev s (λ p. mul (v p) (ev j p)) (λ p l. ap (λ (y : ℕ). mul y (ev j p)) (h.is_sum p l) ∙ zero-mul (2 ^ b.bits) mul field (ev j p))
-    times_function (suc r) s j v all h =
-        let parts : (x : ℕ) × (x < 2 ^ b.bits) × IsCombination mul b.n ev r (λ p. bit_xor (v p) (mul x (ev r p))) = combination_split (2 ^ b.bits) mul field h in
-        let front : IsCombination mul b.n ev s (λ p. mul (bit_xor (v p) (mul parts.0 (ev r p))) (ev j p)) = times_function r s j (λ p. bit_xor (v p) (mul parts.0 (ev r p))) (λ u l. all u (omega arith)) parts.2 in
-        let last : IsCombination mul b.n ev s (λ p. mul parts.0 (mul (ev r p) (ev j p))) = combination_scale (2 ^ b.bits) mul field parts.0 (all r (omega arith)) in
-        combination_same (2 ^ b.bits) mul field (λ p. mul (v p) (ev j p)) (combination_xor (2 ^ b.bits) mul field front last)
-        (λ p l.
-        ap (λ (y : ℕ). bit_xor (mul (bit_xor (v p) (mul parts.0 (ev r p))) (ev j p)) y) (sym (field.mul_assoc parts.0 (ev r p) (ev j p)))
-        ∙ sym (xor_mul (2 ^ b.bits) mul field (bit_xor (v p) (mul parts.0 (ev r p))) (mul parts.0 (ev r p)) (ev j p))
-        ∙ ap (λ (y : ℕ). mul y (ev j p)) (xor_back (v p) (mul parts.0 (ev r p))))
-
-    -- the product of two functions is a combination of those up to their sum
-    product_within : (u j s : ℕ) → u < b.count → j < b.count → sum u j < s → s ≤ b.count → IsCombination mul b.n ev s (λ p. mul (ev u p) (ev j p))
-    product_within u j s lu lj l ls =
-        let rest : IsCombination mul b.n ev (sum u j) (λ p. bit_xor (mul (ev u p) (ev j p)) (mul (lead' u j) (ev (sum u j) p))) = o.products u j lu lj (omega arith) in
-        let wide : IsCombination mul b.n ev s (λ p. bit_xor (mul (ev u p) (ev j p)) (mul (lead' u j) (ev (sum u j) p))) =
-        combination_through (2 ^ b.bits) mul field b.n ev (sum u j) ev s (λ p. bit_xor (mul (ev u p) (ev j p)) (mul (lead' u j) (ev (sum u j) p))) (λ q lq. combination_row (2 ^ b.bits) mul field b.n ev s o.symbols q (omega arith)) rest in
-        let last : IsCombination mul b.n ev s (λ p. mul (lead' u j) (ev (sum u j) p)) = combination_scale (2 ^ b.bits) mul field (lead' u j) (combination_row (2 ^ b.bits) mul field b.n ev s o.symbols (sum u j) l) in
-        combination_same (2 ^ b.bits) mul field (λ p. mul (ev u p) (ev j p)) (combination_xor (2 ^ b.bits) mul field wide last) (λ p q. xor_back (mul (ev u p) (ev j p)) (mul (lead' u j) (ev (sum u j) p)))
-
     -- the first index of a pair whose sum is a member is that of a member
     pub first_member : (i j k : ℕ) → i < b.count → j < b.count → k < b.n → sum i j ≡ rank_at b k → (q : ℕ) × (q < b.n) × (i ≡ rank_at b q)
     first_member i j k li lj lk e = elim (cases_value b.n (rank_at b) i) [
@@ -167,12 +146,7 @@ module _ (mul : ℕ → ℕ → ℕ) (b : Basis) (field : IsField (2 ^ b.bits) m
       | inr d ↦
           let lK : rank_at b k < b.count = m.ranks_below k lk in
           let few : sum i j < b.count = omega arith in
-          let all : (u : ℕ) → u < i → IsCombination mul b.n ev (sum i j) (λ p. mul (ev u p) (ev j p)) =
-          λ u lu. product_within u j (sum i j) (omega arith) lj (o.rise.rises i j u j li lj (omega arith) (omega arith) (omega arith) few) (omega arith) in
-          let whole : IsCombination mul b.n ev (sum i j) (λ p. mul (ev i p) (ev j p)) = times_function i (sum i j) j (ev i) all (m.others i li d) in
-          let last : IsCombination mul b.n ev (sum i j) (λ p. mul (lead' i j) (ev (sum i j) p)) =
-          combination_rest (2 ^ b.bits) mul field (λ p. mul (ev i p) (ev j p)) (λ p. mul (lead' i j) (ev (sum i j) p)) whole (o.products i j li lj few) in
-          let own : IsCombination mul b.n ev (sum i j) (ev (sum i j)) = combination_divide (2 ^ b.bits) mul field (lead' i j) (ev (sum i j)) (o.lead_symbols i j) (o.lead_not_zero i j li lj few) (o.symbols (sum i j)) last in
+          let own : IsCombination mul b.n ev (sum i j) (ev (sum i j)) = old_sum (2 ^ b.bits) mul b.n b.count field ev sum lead' o i j li lj few (m.others i li d) in
           absurd (m.new k lk (subst (λ (s : ℕ). IsCombination mul b.n ev s (ev s)) e own))
     ]
 

@@ -10,8 +10,8 @@ pub returns-clause-value : goal.returns-clause-value
 returns-clause-value g c p l =
     c.add_multiples.ensures.value p l
     ∙ ap (bit_xor (get_or c.args.dst.now p 0))
-    (looked_up-product (g.F.Field.bits_of c.args.f.now) (g.F.Field.modulus_of c.args.f.now) c.args.c (get_or c.args.src.now p 0) c.low_multiples-low.result c.high_multiples-high.result
-    (c.requires.source p 0 (omega arith)) c.low_multiples-low.ensures.products c.high_multiples-high.ensures.products)
+    (looked_up-product (g.F.Field.bits_of c.args.f.now) (g.F.Field.modulus_of c.args.f.now) c.args.c (get_or c.args.src.now p 0) c.multiples.result.low c.multiples.result.high
+    (c.requires.source p 0 (omega arith)) c.multiples.ensures.lows c.multiples.ensures.highs)
 
 pub returns-clause-symbols : goal.returns-clause-symbols
 returns-clause-symbols g c =
