@@ -26,7 +26,7 @@ use Rattle.descriptor_code.specs.Plain.{plain_form}
 use Rattle.stream_codec.specs.declared.limits.TheConstants.{MOST_BYTES}
 use Rattle.agcode_top.specs.declared.limit.TheConstants.{MOST_TABLE}
 use Rattle.agcode_top.specs.declared.status.Status.{Status}
-use Rattle.agcode_top.specs.declared.status.Status.TheVariants.{Done, NotCodeword, Beyond, Ragged, Framing, TableRefused, WordLength, Usage, Descriptor, TooLong, DescFault, InputFault, OutFault, ReportFault, NoMemory}
+use Rattle.agcode_top.specs.declared.status.Status.TheVariants.{Done, NotCodeword, Beyond, Ragged, Framing, TableRefused, WordLength, Usage, Descriptor, TooLong, DescFault, InputFault, OutFault, ReportFault, NoMemory, Salvaged, BadMark, NoCodeword, Ambiguous, NoDesign}
 use Rattle.agcode_top.specs.Calls.{Call, SourceCall, SinkCall, until, IsUntaken, IsUngiven, ReadFailed, WriteFailed, GivesOrFails, NoneFailed}
 use Rattle.agcode_top.specs.Statuses.{OnWords, OnCommand, IsAnswer, IsEarly, IsOwn, IsQuiet, is_streamed}
 use Rattle.agcode_top.specs.Commands.{Refuses, RefusesParts, Accepts, Says, SaysMember, SaysCheck, SaysVotes, IsInputTold}
@@ -90,6 +90,11 @@ encode-cases p i o DescFault h = inr h
 encode-cases p i o InputFault h = inr h
 encode-cases p i o OutFault h = inr h
 encode-cases p i o ReportFault h = inr h
+encode-cases p i o Salvaged h = inr h
+encode-cases p i o (BadMark place) h = inr h
+encode-cases p i o NoCodeword h = inr h
+encode-cases p i o (Ambiguous place) h = inr h
+encode-cases p i o (NoDesign most) h = inr h
 encode-cases p i o NoMemory h = inl refl
 
 pub decode-cases : (p : Parts) (i : SourceCall) (o r : SinkCall) (s : Status) → DecodeLeaves p i o r s → (s ≡ NoMemory) ⊎ Decoded p i o r s
@@ -107,6 +112,11 @@ decode-cases p i o r DescFault h = inr h
 decode-cases p i o r InputFault h = inr h
 decode-cases p i o r OutFault h = inr h
 decode-cases p i o r ReportFault h = inr h
+decode-cases p i o r Salvaged h = inr h
+decode-cases p i o r (BadMark place) h = inr h
+decode-cases p i o r NoCodeword h = inr h
+decode-cases p i o r (Ambiguous place) h = inr h
+decode-cases p i o r (NoDesign most) h = inr h
 decode-cases p i o r NoMemory h = inl refl
 
 -- what each fault says
@@ -221,6 +231,11 @@ carried-served ws command p run DescFault h told sd a = absurd (sd h.0)
 carried-served ws command p run InputFault h told sd a = inr h
 carried-served ws command p run OutFault h told sd a = inr h
 carried-served ws command p run ReportFault h told sd a = inr h
+carried-served ws command p run Salvaged h told sd a = inr h
+carried-served ws command p run (BadMark place) h told sd a = inr h
+carried-served ws command p run NoCodeword h told sd a = inr h
+carried-served ws command p run (Ambiguous place) h told sd a = inr h
+carried-served ws command p run (NoDesign most) h told sd a = inr h
 carried-served ws command p run NoMemory h told sd a = inl refl
 
 -- how a command ends on a valid input
@@ -239,6 +254,11 @@ valid-member p input DescFault text v s = absurd s
 valid-member p input InputFault text v s = absurd s
 valid-member p input OutFault text v s = absurd s
 valid-member p input ReportFault text v s = absurd s
+valid-member p input Salvaged text v s = absurd s
+valid-member p input (BadMark place) text v s = absurd s
+valid-member p input NoCodeword text v s = absurd s
+valid-member p input (Ambiguous place) text v s = absurd s
+valid-member p input (NoDesign most) text v s = absurd s
 valid-member p input NoMemory text v s = absurd s
 
 valid-votes : (p : Parts) (input : List ℕ) (status : Status) (text : List ℕ) → IsValid Votes p input → SaysVotes p input status text → status ≡ Done
@@ -256,6 +276,11 @@ valid-votes p input DescFault text v s = absurd s
 valid-votes p input InputFault text v s = absurd s
 valid-votes p input OutFault text v s = absurd s
 valid-votes p input ReportFault text v s = absurd s
+valid-votes p input Salvaged text v s = absurd s
+valid-votes p input (BadMark place) text v s = absurd s
+valid-votes p input NoCodeword text v s = absurd s
+valid-votes p input (Ambiguous place) text v s = absurd s
+valid-votes p input (NoDesign most) text v s = absurd s
 valid-votes p input NoMemory text v s = absurd s
 
 valid-check : (p : Parts) (input : List ℕ) (status : Status) (text : List ℕ) → IsValid Check p input → SaysCheck p input status text → status ≡ Done
@@ -273,6 +298,11 @@ valid-check p input DescFault text v s = absurd s
 valid-check p input InputFault text v s = absurd s
 valid-check p input OutFault text v s = absurd s
 valid-check p input ReportFault text v s = absurd s
+valid-check p input Salvaged text v s = absurd s
+valid-check p input (BadMark place) text v s = absurd s
+valid-check p input NoCodeword text v s = absurd s
+valid-check p input (Ambiguous place) text v s = absurd s
+valid-check p input (NoDesign most) text v s = absurd s
 valid-check p input NoMemory text v s = absurd s
 
 valid-done : (ws : Words) (command : Command) (p : Parts) (input : List ℕ) (status : Status) (text : List ℕ) → is_streamed command ≡ false → IsValid command p input → Says ws command p input status text → status ≡ Done
@@ -304,6 +334,11 @@ answer-done ws command p i o DescFault e h it si so v = absurd h
 answer-done ws command p i o InputFault e h it si so v = absurd (si h.0)
 answer-done ws command p i o OutFault e h it si so v = absurd (so h.0)
 answer-done ws command p i o ReportFault e h it si so v = absurd h
+answer-done ws command p i o Salvaged e h it si so v = absurd h
+answer-done ws command p i o (BadMark place) e h it si so v = absurd h
+answer-done ws command p i o NoCodeword e h it si so v = absurd h
+answer-done ws command p i o (Ambiguous place) e h it si so v = absurd h
+answer-done ws command p i o (NoDesign most) e h it si so v = absurd h
 answer-done ws command p i o NoMemory e h it si so v = inr refl
 
 encode-done : (p : Parts) (i : SourceCall) (o : SinkCall) (s : Status) → Encoded p i o s → IsTrue i.tells → (ReadFailed i → ⊥) → (WriteFailed o → ⊥) → length i.before.left ≤ MOST_BYTES → s ≡ Done
@@ -382,6 +417,11 @@ carried-early ws command run DescFault q h = h.1
 carried-early ws command run InputFault q h = absurd q
 carried-early ws command run OutFault q h = absurd q
 carried-early ws command run ReportFault q h = absurd q
+carried-early ws command run Salvaged q h = absurd q
+carried-early ws command run (BadMark place) q h = absurd q
+carried-early ws command run NoCodeword q h = absurd q
+carried-early ws command run (Ambiguous place) q h = absurd q
+carried-early ws command run (NoDesign most) q h = absurd q
 carried-early ws command run NoMemory q h = absurd q
 
 pub run-early : (texts : List (List ℕ)) (run : Call) (s : Status) → ObeyLeaves texts run s → IsEarly s → IsUntaken run.input
@@ -416,6 +456,11 @@ answer-quiet ws command run DescFault e q h = h.2
 answer-quiet ws command run InputFault e q h = (serve-answer ws command h.parts run.input run.out run.report InputFault e h.leaves).0.1
 answer-quiet ws command run OutFault e q h = absurd q
 answer-quiet ws command run ReportFault e q h = absurd q
+answer-quiet ws command run Salvaged e q h = absurd q
+answer-quiet ws command run (BadMark place) e q h = absurd q
+answer-quiet ws command run NoCodeword e q h = absurd q
+answer-quiet ws command run (Ambiguous place) e q h = absurd q
+answer-quiet ws command run (NoDesign most) e q h = absurd q
 answer-quiet ws command run NoMemory e q h = wanting-out ws command run h
 
 streamed-quiet : (ws : Words) (command : Command) (run : Call) (s : Status) → IsQuiet true s → CarryOutLeaves ws command run s → IsUngiven run.out
@@ -433,6 +478,11 @@ streamed-quiet ws command run DescFault q h = h.2
 streamed-quiet ws command run InputFault q h = absurd q
 streamed-quiet ws command run OutFault q h = absurd q
 streamed-quiet ws command run ReportFault q h = absurd q
+streamed-quiet ws command run Salvaged q h = absurd q
+streamed-quiet ws command run (BadMark place) q h = absurd q
+streamed-quiet ws command run NoCodeword q h = absurd q
+streamed-quiet ws command run (Ambiguous place) q h = absurd q
+streamed-quiet ws command run (NoDesign most) q h = absurd q
 streamed-quiet ws command run NoMemory q h = wanting-out ws command run h
 
 command-quiet : (ws : Words) (command : Command) (run : Call) (s : Status) → IsQuiet (is_streamed command) s → CarryOutLeaves ws command run s → IsUngiven run.out
@@ -467,6 +517,11 @@ answered ws run last DescFault e q h told it = absurd q
 answered ws run last InputFault e q h told it = absurd q
 answered ws run last OutFault e q h told it = absurd q
 answered ws run last ReportFault e q h told it = absurd q
+answered ws run last Salvaged e q h told it = absurd q
+answered ws run last (BadMark place) e q h told it = absurd q
+answered ws run last NoCodeword e q h told it = absurd q
+answered ws run last (Ambiguous place) e q h told it = absurd q
+answered ws run last (NoDesign most) e q h told it = absurd q
 answered ws run last NoMemory e q h told it = absurd q
 
 pub run-answer : (texts : List (List ℕ)) (run : Call) (s : Status) (last : SinkView) → ObeyLeaves texts run s → OnWords texts (λ w. Answers w (with_line run last) s)
@@ -519,6 +574,11 @@ carried-report ws command run DescFault n h = h.3
 carried-report ws command run InputFault n h = serve-report ws command h.parts run.input run.out run.report InputFault (λ e. n e tt) h.leaves
 carried-report ws command run OutFault n h = serve-report ws command h.parts run.input run.out run.report OutFault (λ e. n e tt) h.leaves
 carried-report ws command run ReportFault n h = serve-report ws command h.parts run.input run.out run.report ReportFault (λ e. n e tt) h.leaves
+carried-report ws command run Salvaged n h = serve-report ws command h.parts run.input run.out run.report Salvaged (λ e. n e tt) h.leaves
+carried-report ws command run (BadMark place) n h = serve-report ws command h.parts run.input run.out run.report (BadMark place) (λ e. n e tt) h.leaves
+carried-report ws command run NoCodeword n h = serve-report ws command h.parts run.input run.out run.report NoCodeword (λ e. n e tt) h.leaves
+carried-report ws command run (Ambiguous place) n h = serve-report ws command h.parts run.input run.out run.report (Ambiguous place) (λ e. n e tt) h.leaves
+carried-report ws command run (NoDesign most) n h = serve-report ws command h.parts run.input run.out run.report (NoDesign most) (λ e. n e tt) h.leaves
 carried-report ws command run NoMemory n h = wanting-report ws command run h
 
 obeyed-report : (texts : List (List ℕ)) (run : Call) (s : Status) → ObeyLeaves texts run s → OnCommand texts Decode (IsOwn s → ⊥) → IsUngiven run.report

@@ -22,7 +22,7 @@ use Rattle.code_descriptor.specs.Parts.{Parts}
 use Rattle.descriptor_code.specs.Plain.{plain_form}
 use Rattle.stream_codec.specs.declared.limits.TheConstants.{MOST_BYTES}
 use Rattle.agcode_top.specs.declared.status.Status.{Status}
-use Rattle.agcode_top.specs.declared.status.Status.TheVariants.{Done, NotCodeword, Beyond, Ragged, Framing, TableRefused, WordLength, Usage, Descriptor, TooLong, DescFault, InputFault, OutFault, ReportFault, NoMemory}
+use Rattle.agcode_top.specs.declared.status.Status.TheVariants.{Done, NotCodeword, Beyond, Ragged, Framing, TableRefused, WordLength, Usage, Descriptor, TooLong, DescFault, InputFault, OutFault, ReportFault, NoMemory, Salvaged, BadMark, NoCodeword, Ambiguous, NoDesign}
 use Rattle.agcode_top.specs.Calls.{Call, SourceCall, SinkCall, until, once_given, GivesText, GivesOrFails, NoneFailed}
 use Rattle.agcode_top.specs.Statuses.{OnCommand, IsRead, IsOwn}
 use Rattle.agcode_top.specs.Commands.{Accepts}
@@ -193,6 +193,11 @@ carried-read ws run DescFault q h = absurd q
 carried-read ws run InputFault q h = absurd q
 carried-read ws run OutFault q h = absurd q
 carried-read ws run ReportFault q h = absurd q
+carried-read ws run Salvaged q h = absurd q
+carried-read ws run (BadMark place) q h = absurd q
+carried-read ws run NoCodeword q h = absurd q
+carried-read ws run (Ambiguous place) q h = absurd q
+carried-read ws run (NoDesign most) q h = absurd q
 carried-read ws run NoMemory q h = absurd q
 
 pub run-reading : (texts : List (List ℕ)) (run : Call) (s : Status) (last : SinkView) → ObeyLeaves texts run s → run.report.before.faults ≤ run.report.after.faults →
@@ -216,6 +221,11 @@ carried-own ws command run DescFault q h = absurd q
 carried-own ws command run InputFault q h = h
 carried-own ws command run OutFault q h = h
 carried-own ws command run ReportFault q h = h
+carried-own ws command run Salvaged q h = h
+carried-own ws command run (BadMark place) q h = h
+carried-own ws command run NoCodeword q h = h
+carried-own ws command run (Ambiguous place) q h = h
+carried-own ws command run (NoDesign most) q h = h
 carried-own ws command run NoMemory q h = absurd q
 
 encoded-own : (p : Parts) (i : SourceCall) (o : SinkCall) (s : Status) → IsOwn s → EncodeLeaves p i o s → Encoded p i o s

@@ -18,7 +18,7 @@ use Rattle.stream_codec.specs.declared.decode.DecodeCounts.{DecodeCounts}
 use Rattle.stream_codec.specs.declared.decode.DecodeFault.{DecodeFault}
 use Rattle.stream_codec.specs.declared.decode.DecodeFault.TheVariants as decoding
 use Rattle.agcode_top.specs.declared.status.Status.{Status}
-use Rattle.agcode_top.specs.declared.status.Status.TheVariants.{Done, NotCodeword, Beyond, Ragged, Framing, TableRefused, WordLength, Usage, Descriptor, TooLong, DescFault, InputFault, OutFault, ReportFault, NoMemory}
+use Rattle.agcode_top.specs.declared.status.Status.TheVariants.{Done, NotCodeword, Beyond, Ragged, Framing, TableRefused, WordLength, Usage, Descriptor, TooLong, DescFault, InputFault, OutFault, ReportFault, NoMemory, Salvaged, BadMark, NoCodeword, Ambiguous, NoDesign}
 use Rattle.agcode_top.specs.Calls.{Call, SourceCall, SinkCall, IsUntaken, IsUngiven}
 use Rattle.agcode_top.specs.Commands.{has_points, takes_no_code, Refuses, RefusesParts, Says, IsInputTold, GaveAnswer}
 use Rattle.agcode_top.specs.Steps.{LeavesText}
@@ -60,6 +60,11 @@ is_own DescFault = false
 is_own InputFault = true
 is_own OutFault = true
 is_own ReportFault = true
+is_own Salvaged = true
+is_own (BadMark place) = true
+is_own NoCodeword = true
+is_own (Ambiguous place) = true
+is_own (NoDesign most) = true
 is_own NoMemory = true
 
 encode_own : (answer : Result EncodeCounts EncodeFault) → is_own (encode_status answer) ≡ true
@@ -155,6 +160,11 @@ compile_and_serve-served ws command p input out report DescFault a h = (a, h)
 compile_and_serve-served ws command p input out report InputFault a h = (a, h)
 compile_and_serve-served ws command p input out report OutFault a h = (a, h)
 compile_and_serve-served ws command p input out report ReportFault a h = (a, h)
+compile_and_serve-served ws command p input out report Salvaged a h = (a, h)
+compile_and_serve-served ws command p input out report (BadMark place) a h = (a, h)
+compile_and_serve-served ws command p input out report NoCodeword a h = (a, h)
+compile_and_serve-served ws command p input out report (Ambiguous place) a h = (a, h)
+compile_and_serve-served ws command p input out report (NoDesign most) a h = (a, h)
 compile_and_serve-served ws command p input out report NoMemory a h = serve-NoMemory ws command p input out report h
 
 -- over a descriptor that is accepted
@@ -178,6 +188,11 @@ carry_out-compiled ws command p c DescFault read h = absurd (serve-DescFault ws 
 carry_out-compiled ws command p c InputFault read h = over ws command p c InputFault read h.0 h.1
 carry_out-compiled ws command p c OutFault read h = over ws command p c OutFault read h.0 h.1
 carry_out-compiled ws command p c ReportFault read h = over ws command p c ReportFault read h.0 h.1
+carry_out-compiled ws command p c Salvaged read h = over ws command p c Salvaged read h.0 h.1
+carry_out-compiled ws command p c (BadMark place) read h = over ws command p c (BadMark place) read h.0 h.1
+carry_out-compiled ws command p c NoCodeword read h = over ws command p c NoCodeword read h.0 h.1
+carry_out-compiled ws command p c (Ambiguous place) read h = over ws command p c (Ambiguous place) read h.0 h.1
+carry_out-compiled ws command p c (NoDesign most) read h = over ws command p c (NoDesign most) read h.0 h.1
 carry_out-compiled ws command p c NoMemory read h = h
 
 pub has_points-from : (ps : List Point) → length ps ≢ 0 → has_points ps ≡ true

@@ -16,7 +16,7 @@ use Rattle.code_descriptor.specs.Parts.{Parts, IsDescriptor}
 use Rattle.descriptor_code.specs.Plain.{plain_form}
 use Rattle.descriptor_code.specs.PlainLaws.{IsPlain}
 use Rattle.agcode_top.specs.declared.status.Status.{Status}
-use Rattle.agcode_top.specs.declared.status.Status.TheVariants.{Done, NotCodeword, Beyond, Ragged, Framing, TableRefused, WordLength, Usage, Descriptor, TooLong, DescFault, InputFault, OutFault, ReportFault, NoMemory}
+use Rattle.agcode_top.specs.declared.status.Status.TheVariants.{Done, NotCodeword, Beyond, Ragged, Framing, TableRefused, WordLength, Usage, Descriptor, TooLong, DescFault, InputFault, OutFault, ReportFault, NoMemory, Salvaged, BadMark, NoCodeword, Ambiguous, NoDesign}
 use Rattle.agcode_top.specs.Calls.{SourceCall, SinkCall}
 use Rattle.agcode_top.specs.Leaves.{EncodeLeaves, DecodeLeaves}
 use Rattle.agcode_top.specs.Streams.{encode_status, decode_status, encode_of, decode_of, Encoded, Decoded}
@@ -67,6 +67,11 @@ is_wanting DescFault = false
 is_wanting InputFault = false
 is_wanting OutFault = false
 is_wanting ReportFault = false
+is_wanting Salvaged = false
+is_wanting (BadMark place) = false
+is_wanting NoCodeword = false
+is_wanting (Ambiguous place) = false
+is_wanting (NoDesign most) = false
 is_wanting NoMemory = true
 
 encode_has : (answer : Result EncodeCounts EncodeFault) → is_wanting (encode_status answer) ≡ false
@@ -106,6 +111,11 @@ encode-leaves p input out DescFault h = h
 encode-leaves p input out InputFault h = h
 encode-leaves p input out OutFault h = h
 encode-leaves p input out ReportFault h = h
+encode-leaves p input out Salvaged h = h
+encode-leaves p input out (BadMark place) h = h
+encode-leaves p input out NoCodeword h = h
+encode-leaves p input out (Ambiguous place) h = h
+encode-leaves p input out (NoDesign most) h = h
 encode-leaves p input out NoMemory h = absurd (not_wanting (encode_status h.answer) h.status_is (encode_has h.answer))
 
 pub decode-leaves : (p : Parts) (input : SourceCall) (out report : SinkCall) (status : Status) → Decoded p input out report status → DecodeLeaves p input out report status
@@ -123,4 +133,9 @@ decode-leaves p input out report DescFault h = h
 decode-leaves p input out report InputFault h = h
 decode-leaves p input out report OutFault h = h
 decode-leaves p input out report ReportFault h = h
+decode-leaves p input out report Salvaged h = h
+decode-leaves p input out report (BadMark place) h = h
+decode-leaves p input out report NoCodeword h = h
+decode-leaves p input out report (Ambiguous place) h = h
+decode-leaves p input out report (NoDesign most) h = h
 decode-leaves p input out report NoMemory h = absurd (not_wanting (decode_status h.answer) h.status_is (decode_has h.answer))

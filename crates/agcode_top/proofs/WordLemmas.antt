@@ -21,7 +21,7 @@ use Rattle.command_words.specs.declared.words.Command.{Command}
 use Rattle.command_words.specs.declared.words.Words.{Words}
 use Rattle.command_words.specs.declared.words.Command.TheVariants.{Member, Bound, Check, Votes, Trial}
 use Rattle.agcode_top.specs.declared.status.Status.{Status}
-use Rattle.agcode_top.specs.declared.status.Status.TheVariants.{Done, NotCodeword, Beyond, Ragged, Framing, TableRefused, WordLength, Usage, Descriptor, TooLong, DescFault, InputFault, OutFault, ReportFault, NoMemory}
+use Rattle.agcode_top.specs.declared.status.Status.TheVariants.{Done, NotCodeword, Beyond, Ragged, Framing, TableRefused, WordLength, Usage, Descriptor, TooLong, DescFault, InputFault, OutFault, ReportFault, NoMemory, Salvaged, BadMark, NoCodeword, Ambiguous, NoDesign}
 use Rattle.agcode_top.specs.Commands.{IsNoWord, IsInputTold, Says, AcceptsTable, RefusesTable, IsNearWord, HasVotes, IsFar, GaveAnswer}
 use Rattle.agcode_top.specs.Calls.{SourceCall, SinkCall, IsUngiven}
 use Rattle.agcode_top.specs.Steps.{IsWordFault, LeavesText, SaysOf}
@@ -55,6 +55,11 @@ word-fault ws command p n input out DescFault told says e u h = absurd h
 word-fault ws command p n input out InputFault told says e u h = (h, u)
 word-fault ws command p n input out OutFault told says e u h = absurd h
 word-fault ws command p n input out ReportFault told says e u h = absurd h
+word-fault ws command p n input out Salvaged told says e u h = absurd h
+word-fault ws command p n input out (BadMark place) told says e u h = absurd h
+word-fault ws command p n input out NoCodeword told says e u h = absurd h
+word-fault ws command p n input out (Ambiguous place) told says e u h = absurd h
+word-fault ws command p n input out (NoDesign most) told says e u h = absurd h
 word-fault ws command p n input out NoMemory told says e u h = u
 
 pub member-fault : (ws : Words) (p : Parts) (n : ℕ) (input : SourceCall) (out : SinkCall) (status : Status) → n ≡ length p.points → IsUngiven out → IsWordFault n input status → AnswerLeaves ws Member p input out status

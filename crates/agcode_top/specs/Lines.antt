@@ -9,6 +9,7 @@ use Rattle.code_descriptor.specs.declared.DescCause.TheVariants as cause
 use Rattle.agcode_top.specs.declared.status.Status.{Status}
 use Rattle.agcode_top.specs.declared.status.Status.TheVariants.{Done, NotCodeword, Beyond, Ragged, Framing}
 use Rattle.agcode_top.specs.declared.status.Status.TheVariants.{TableRefused, WordLength, Usage, Descriptor}
+use Rattle.agcode_top.specs.declared.status.Status.TheVariants.{Salvaged, BadMark, NoCodeword, Ambiguous, NoDesign}
 use Rattle.agcode_top.specs.declared.status.Status.TheVariants.{TooLong, DescFault, InputFault, OutFault}
 use Rattle.agcode_top.specs.declared.status.Status.TheVariants.{ReportFault, NoMemory}
 
@@ -20,6 +21,11 @@ number_of (Ragged extra) = 3
 number_of Framing = 4
 number_of (TableRefused line) = 5
 number_of (WordLength taken) = 6
+number_of Salvaged = 7
+number_of (BadMark place) = 8
+number_of NoCodeword = 9
+number_of (Ambiguous place) = 10
+number_of (NoDesign most) = 11
 number_of Usage = 64
 number_of (Descriptor cause) = 65
 number_of (TooLong taken) = 66
@@ -63,6 +69,11 @@ line_of (Ragged extra) = number_line_of (codes "ragged") extra
 line_of Framing = plain_line_of (codes "framing")
 line_of (TableRefused line) = number_line_of (codes "table refused at line") line
 line_of (WordLength taken) = plain_line_of (codes "word length")
+line_of Salvaged = []
+line_of (BadMark place) = number_line_of (codes "mark") place
+line_of NoCodeword = plain_line_of (codes "no codeword")
+line_of (Ambiguous place) = number_line_of (codes "ambiguous") place
+line_of (NoDesign most) = number_line_of (codes "no design most") most
 line_of Usage = plain_line_of (codes "usage: agcode COMMAND [OPTIONS] DESC")
 line_of (Descriptor cause) = cause_line_of cause
 line_of (TooLong taken) = plain_line_of (codes "too long")

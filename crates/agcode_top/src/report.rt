@@ -56,13 +56,17 @@ fn status_line(buf: &mut LineBuf, status: &Status)
     ensures { buf.new ≡ line_of status.now }
 {
     match *status {
-        Status::Done | Status::NotCodeword | Status::ReportFault => buf.clear(),
+        Status::Done | Status::NotCodeword | Status::Salvaged | Status::ReportFault => buf.clear(),
         Status::Beyond { group, word } => beyond_line(buf, group, word),
         Status::Ragged { extra } => number_line(buf, "ragged", u64::from(extra)),
         Status::Framing => plain_line(buf, "framing"),
         Status::TableRefused { line } => number_line(buf, "table refused at line", u64::from(line)),
         Status::TooLong { .. } => plain_line(buf, "too long"),
         Status::WordLength { .. } => plain_line(buf, "word length"),
+        Status::BadMark { place } => number_line(buf, "mark", u64::from(place)),
+        Status::NoCodeword => plain_line(buf, "no codeword"),
+        Status::Ambiguous { place } => number_line(buf, "ambiguous", u64::from(place)),
+        Status::NoDesign { most } => number_line(buf, "no design most", u64::from(most)),
         Status::Usage => plain_line(buf, "usage: agcode COMMAND [OPTIONS] DESC"),
         Status::Descriptor { cause } => cause_line(buf, cause),
         Status::DescFault => plain_line(buf, "descriptor not read"),

@@ -21,8 +21,20 @@ pub enum Status {
     Framing,
     /// check: the input is not the table of the order bound; the first line at which a check fails, from 1.
     TableRefused { line: u32 },
-    /// member, votes: the input is shorter or longer than a word; `taken` is its length, or one more than that of a word.
+    /// member, votes: the input is shorter or longer than a word; `taken` is its length, or one more than that of a word. erase:
+    /// the same of a word with its marks.
     WordLength { taken: u32 },
+    /// decode with `--salvage`: a codeword of the text was not within the radius of what came, and all that can be had of the
+    /// text was written. The report tells which codewords.
+    Salvaged,
+    /// erase: the first place whose mark is neither 0 nor 1.
+    BadMark { place: u32 },
+    /// erase: no codeword has the symbols that were kept.
+    NoCodeword,
+    /// erase: two codewords or more have the symbols that were kept; the first place at which two of them differ.
+    Ambiguous { place: u32 },
+    /// design: no function has so many pairs as are wanted; the most pairs that one has.
+    NoDesign { most: u32 },
     /// The words are no command line of a command that is built.
     Usage,
     /// The first cause that refuses the descriptor.
@@ -35,7 +47,7 @@ pub enum Status {
     InputFault,
     /// The output could not be written.
     OutFault,
-    /// decode: the report could not be written.
+    /// decode, erase: the report could not be written.
     ReportFault,
     /// Memory was wanting. Nothing was written on the output.
     NoMemory,
@@ -54,6 +66,11 @@ impl Status {
             Status::Framing => 4,
             Status::TableRefused { .. } => 5,
             Status::WordLength { .. } => 6,
+            Status::Salvaged => 7,
+            Status::BadMark { .. } => 8,
+            Status::NoCodeword => 9,
+            Status::Ambiguous { .. } => 10,
+            Status::NoDesign { .. } => 11,
             Status::Usage => 64,
             Status::Descriptor { .. } => 65,
             Status::TooLong { .. } => 66,
