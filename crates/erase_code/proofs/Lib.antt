@@ -1,0 +1,9 @@
+pub mod Places
+pub mod Keeping
+pub mod Splitting
+pub mod Filling
+pub mod Promises
+pub mod Writing
+pub mod Exact
+pub mod Answering
+pub mod Marking

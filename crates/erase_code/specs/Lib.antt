@@ -1,0 +1,4 @@
+pub mod Filling
+pub mod Equations
+pub mod Laws
+pub mod Marks
