@@ -4,10 +4,11 @@
 -- params_text_of      the parameters of a code, a line each, from its length, the labels of its members and of the checked
 --                     ones, the bound, the radius, and a normal form
 -- votes_text_of       the lines of a ledger
-use Rattle.std.specs.Prelude.{ℕ, ◌-◌, ◌++◌, ◌∷◌, List, length, map, codes}
+-- filled_text_of      for each of these places a line with the symbol of a word there, and the number of the places
+use Rattle.std.specs.Prelude.{ℕ, ◌-◌, ◌++◌, ◌∷◌, List, length, map, codes, slice_index}
 use Rattle.std.specs.Fmt.{decimal}
 use Rattle.std.specs.List.{flat_map}
-use Rattle.ag_texts.specs.Lines.{line_of, number_line_of, votes_line_of}
+use Rattle.ag_texts.specs.Lines.{line_of, number_line_of, votes_line_of, filled_line_of}
 use Rattle.cab_curve.specs.declared.normal.NormTerm.{NormTerm}
 use Rattle.vote_core.specs.declared.ledger.VoteLine.{VoteLine}
 
@@ -33,3 +34,8 @@ params_text_of n labels checked bound radius relation =
 
 abbrev pub votes_text_of : List VoteLine → List ℕ
 votes_text_of lines = flat_map (λ l. votes_line_of l.label l.pairs l.right l.wrong) lines
+
+abbrev pub filled_text_of : List ℕ → List ℕ → List ℕ
+filled_text_of places word =
+    flat_map (λ p. filled_line_of p (slice_index word p)) places
+    ++ number_line_of (codes "done filled") (length places)
