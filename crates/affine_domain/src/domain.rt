@@ -8,7 +8,7 @@ ghost use Rattle.affine_domain.specs.Points.{space_points};
 ghost use Rattle.affine_domain.specs.Domain.{affine_domain};
 
 use crate::levels::{below_degree, split};
-use crate::power::monomial;
+use crate::monomials::monomial;
 use crate::{Point, points};
 use gf_field::Field;
 use order_domain::OrderDomain;
@@ -28,8 +28,10 @@ pub const MOST_DEGREE: u32 = 510;
 /// label of a monomial is its index.
 #[derive(Drop)]
 pub struct AffineDomain {
-    bits: u32,
-    vars: u32,
+    /// The bits of a symbol.
+    pub bits: u32,
+    /// The number of variables.
+    pub vars: u32,
     ghost is_space: { IsSpace bits vars },
 }
 

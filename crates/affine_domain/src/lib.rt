@@ -9,8 +9,8 @@ ghost use Rattle.affine_domain.specs.Pairs.{PairsOfMonomials};
 
 mod domain;
 mod levels;
+mod monomials;
 mod points;
-mod power;
 
 pub use domain::{AffineDomain, MOST_DEGREE, MOST_FUNCTIONS};
 pub use order_domain::Point;

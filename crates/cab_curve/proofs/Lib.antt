@@ -1,5 +1,4 @@
 pub mod Least
-pub mod Powers
 pub mod Rows
 pub mod Accepted
 pub mod Tables

@@ -8,7 +8,7 @@ ghost use Rattle.cab_curve.specs.Functions.{IsFunctionRow, IsFunctionTable};
 ghost use Rattle.cab_curve.specs.Domain.{top_of, cab_domain};
 
 use crate::functions::{Function, FunctionTable, functions_up_to};
-use crate::power::monomial;
+use crate::monomials::monomial;
 use crate::relation::coefficient;
 use crate::{Curve, Point};
 use gf_field::Field;

@@ -7,17 +7,17 @@
 mod domain;
 mod equation;
 mod functions;
+mod monomials;
 mod normal;
 mod points;
-mod power;
 mod relation;
 
 pub use curve_theory::Term;
 pub use domain::CabDomain;
 pub use equation::{Curve, CurveFault};
+pub use monomials::monomial;
 pub use normal::{NormTerm, Normal};
 pub use order_domain::Point;
-pub use power::monomial;
 
 #[cfg(test)]
 mod tests;

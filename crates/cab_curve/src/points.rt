@@ -5,7 +5,7 @@ ghost use Rattle.gf_theory.specs.Field.{gf_mul};
 ghost use Rattle.curve_theory.specs.Curve.{value, IsOnCurve};
 ghost use Rattle.cab_curve.specs.Points.{is_on_curve, points_of_row, curve_points};
 
-use crate::power::monomial;
+use crate::monomials::monomial;
 use crate::{Curve, Point, Term};
 use gf_field::Field;
 use std::alloc::{AllocError, Global};

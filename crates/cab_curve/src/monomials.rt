@@ -2,30 +2,11 @@
 
 ghost use Rattle.std.specs.Prelude.{◌≡◌, ℕ, ◌<◌, ◌^◌};
 ghost use Rattle.gf_theory.specs.Field.{gf_mul};
-ghost use Rattle.curve_theory.specs.Curve.{power, monomial};
+ghost use Rattle.curve_theory.specs.Curve.{monomial};
 
 use crate::Point;
+use field_power::power;
 use gf_field::Field;
-
-// `x` to the power `k`, by squares.
-fn power<F: Field>(f: &F, x: u8, k: u32) -> u8
-    requires { x < 2 ^ F.bits_of f.now }
-    ensures power { result ≡ power (gf_mul (F.bits_of f.now) (F.modulus_of f.now)) x k }
-    ensures symbol { result < 2 ^ F.bits_of f.now }
-{
-    f.bits();
-    let mut product = 1;
-    let mut square = x;
-    let mut rest = k;
-    while rest > 0 {
-        if rest % 2 == 1 {
-            product = f.mul(product, square);
-        }
-        square = f.mul(square, square);
-        rest /= 2;
-    }
-    product
-}
 
 /// The value of `x^i·y^j` at p, whose coordinates are symbols.
 pub fn monomial<F: Field>(f: &F, i: u32, j: u32, p: &Point) -> u8
