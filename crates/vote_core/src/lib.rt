@@ -15,4 +15,5 @@ mod turns;
 mod voter;
 
 pub use ledger::VoteLine;
+pub use shifts::{Shift, Shifts, shifts_of};
 pub use voter::{Found, Voter};

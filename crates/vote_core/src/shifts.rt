@@ -2,11 +2,13 @@
 //! times vector j is vector j', the entries (i', j) and (i, j') of the matrix of any list are the same. So most entries
 //! need not be computed.
 
-ghost use Rattle.std.specs.Prelude.{ℕ, ◌≡◌, ◌+◌, ◌<◌, ◌≤◌, ◌^◌, length, slice_index, All, IsTrue, ◌↔◌, IfSome};
+ghost use Rattle.std.specs.Prelude.{ℕ, ◌≡◌, ◌+◌, ◌<◌, ◌≤◌, ◌^◌, length, slice_index, All, IsTrue, ◌↔◌, IfSome, IfOk};
 ghost use Rattle.gf_theory.specs.Field.{gf_mul};
+ghost use Rattle.vote_core.specs.Shifts.{IsShiftRoom, HasShifts};
 
 use eval_basis::EvalBasis;
 use gf_field::Field;
+use std::alloc::{AllocError, Global};
 
 /// The products of all members with one of them.
 #[derive(Drop)]
@@ -22,6 +24,29 @@ pub struct Shift {
 pub struct Shifts {
     pub first: Shift,
     pub second: Shift,
+}
+
+/// Room for the products with one member.
+pub fn new_shift(alloc: Global, n: usize) -> Result<Shift, AllocError>
+    ensures { IfOk result (λ shift. IsShiftRoom n shift) }
+{
+    Ok(Shift {
+        next: vec![in alloc; None; n]?,
+        back: vec![in alloc; None; n]?,
+    })
+}
+
+/// The products of the members of this basis with two of them.
+pub fn shifts_of<F: Field>(alloc: Global, basis: &EvalBasis<F>) -> Result<Shifts, AllocError>
+    ensures { IfOk result (HasShifts basis.now) }
+{
+    let n = basis.n() as usize;
+    let mut shifts = Shifts {
+        first: new_shift(alloc, n)?,
+        second: new_shift(alloc, n)?,
+    };
+    shifts.fill(basis);
+    Ok(shifts)
 }
 
 /// Whether z is the product of x and y, symbol by symbol.

@@ -6,12 +6,11 @@ ghost use Rattle.order_theory.specs.Codes.{marked, low_bits, IsBound};
 ghost use Rattle.order_theory.specs.Course.{IsErrorOf};
 ghost use Rattle.vote_core.specs.Rooms.{IsRoom};
 ghost use Rattle.vote_core.specs.Ledgers.{ledger_of};
-ghost use Rattle.vote_core.specs.Shifts.{IsShiftRoom};
 
 use crate::course::{is_undamaged, weight_of};
 use crate::ledger::VoteLine;
 use crate::room::{Board, Room, Scratch};
-use crate::shifts::{Shift, Shifts};
+use crate::shifts::{Shifts, new_shift};
 use crate::turns::vote_on_all;
 use eval_basis::{Checked, EvalBasis};
 use gf_field::Field;
@@ -24,16 +23,6 @@ use vote_matrix::Growing;
 pub enum Found {
     Error,
     Far,
-}
-
-/// Room for the products with one member.
-fn new_shift(alloc: Global, n: usize) -> Result<Shift, AllocError>
-    ensures { IfOk result (λ shift. IsShiftRoom n shift) }
-{
-    Ok(Shift {
-        next: vec![in alloc; None; n]?,
-        back: vec![in alloc; None; n]?,
-    })
 }
 
 /// The room for a vote over this basis.
@@ -126,7 +115,7 @@ fn find_error<F: Field>(
     }
     room.board.matrix.clear();
     room.board.shifts.fill(basis);
-    let told = vote_on_all(basis, marks, list, room, lines);
+    let told = vote_on_all(basis, marks, t, list, room, lines)?;
     if weight_of(list) > t as usize {
         return None;
     }

@@ -4,7 +4,7 @@ use Rattle.vote_core.specs.Rooms.{IsRoom}
 use Rattle.vote_core.specs.Shifts.{HasShifts}
 use Rattle.vote_core.proofs.Underway.{underway_none, underway_marked, underway_turned, underway_all}
 use Rattle.vote_core.proofs.turns.vote_on_all.Goals as goal
-use Rattle.vote_core.proofs.turns.vote_on_all.Goals.{then-not-marks-k, else-not-marks-k}
+use Rattle.vote_core.proofs.turns.vote_on_all.Goals.{then-not-marks-k+in_ok-line, else-not-marks-k}
 
 pub loop-k-init : goal.loop-k-init
 loop-k-init g c = record {
@@ -13,22 +13,22 @@ loop-k-init g c = record {
   so_far = underway_none c.args.basis.now c.args.marks.now c.args.work.now c.args.room.now.board.matrix c.args.lines.now c.requires.word c.requires.empty;
 }
 
-pub turn-requires-clause-so_far : goal.turn-requires-clause-so_far
-turn-requires-clause-so_far g c = c.loop-k.invariant.so_far.settled c.loop-k.k (omega arith) (omega arith)
+pub turn_within-requires-clause-so_far : goal.turn_within-requires-clause-so_far
+turn_within-requires-clause-so_far g c = c.loop-k.invariant.so_far.settled c.loop-k.k (omega arith) (omega arith)
 
 pub loop-k-preserved : goal.loop-k-preserved
 loop-k-preserved g c =
     let low : c.loop-k.k < c.args.basis.now.n = omega arith in
     let long : length c.loop-k.lines ≡ c.args.basis.now.n = c.loop-k.auto.lines ∙ c.requires.lines in
     elim c.if-not-marks-k.branch [
-      | then-not-marks-k w ↦
+      | then-not-marks-k+in_ok-line w ↦
           record {
-            room = subst (λ (r : Room). IsRoom c.args.basis.now r) (sym w.room-is) w.turn.ensures.room;
-            shifts = subst (λ (r : Room). HasShifts c.args.basis.now r.board.shifts) (sym w.room-is) w.turn.ensures.shifts;
+            room = subst (λ (r : Room). IsRoom c.args.basis.now r) (sym w.room-is) w.turn_within.ensures.room;
+            shifts = subst (λ (r : Room). HasShifts c.args.basis.now r.board.shifts) (sym w.room-is) w.turn_within.ensures.shifts;
             so_far =
                 rw (w.work-is, w.room-is, w.lines-is, w.told-is)
                 (underway_turned c.args.basis.now c.args.marks.now c.args.work.now c.loop-k.work c.loop-k.room.board.matrix c.loop-k.lines c.loop-k.told c.loop-k.k c.n-k-end.ensures.sound c.requires.word c.loop-k.invariant.so_far
-                w.turn.new.work w.turn.new.room.board.matrix w.turn.result low long w.if-not-marks-k.true w.turn.ensures.turn w.turn.ensures.word w.turn.ensures.settled);
+                w.turn_within.new.work w.turn_within.new.room.board.matrix w.in_ok-line.line low long w.if-not-marks-k.true w.in_ok-line.ensures.turn w.turn_within.ensures.word w.turn_within.ensures.settled);
           }
       | else-not-marks-k w ↦
           record {
@@ -50,5 +50,6 @@ returns g c =
       kept = c.loop-k.invariant.so_far.kept;
       found = underway_all c.args.basis.now c.args.marks.now c.args.work.now c.loop-k.work c.loop-k.room.board.matrix c.loop-k.lines c.loop-k.told c.loop-k.k c.n-k-end.ensures.sound c.requires.word c.loop-k.invariant.so_far end;
       few = omega arith;
+      none = tt;
       room = c.loop-k.invariant.room;
     }

@@ -6,8 +6,8 @@ use Rattle.order_theory.proofs.Errors.{error_from, error_once, error_of_none, ze
 use Rattle.vote_core.proofs.Settled.{advanced_none}
 use Rattle.vote_core.proofs.voter.find_error.Goals as goal
 
-pub vote_on_all-told-requires-clause-empty : goal.vote_on_all-told-requires-clause-empty
-vote_on_all-told-requires-clause-empty g c =
+pub vote_on_all-requires-clause-empty : goal.vote_on_all-requires-clause-empty
+vote_on_all-requires-clause-empty g c =
     λ s. advanced_none c.args.basis.now c.args.list.now c.clear.new.self s c.args.room.now.board.matrix.bits c.args.room.now.board.matrix.modulus c.args.room.now.board.matrix.n c.is_undamaged.ensures.sound c.requires.room.bits c.requires.room.modulus c.requires.room.n c.clear.ensures
 
 pub returns-then-is_undamaged : goal.returns-then-is_undamaged
@@ -32,24 +32,24 @@ returns-then-weight_of-t g c = record {
   ledger = tt;
   few = tt;
   none = λ e x.
-      let same : weight c.vote_on_all-told.new.work ≡ weight e = ap weight (c.vote_on_all-told.ensures.found.error c.args.t e c.requires.bound x) in
+      let same : weight c.vote_on_all.new.work ≡ weight e = ap weight (c.in_ok-told.ensures.found.error c.args.t e c.requires.bound x) in
       let light : weight e ≤ c.args.t = x.light in
       omega (arith, c.weight_of.ensures, c.if-weight_of-t.true);
-  room = c.vote_on_all-told.ensures.room;
+  room = c.vote_on_all.ensures.room;
   sound = c.is_undamaged.ensures.sound;
 }
 
 pub returns : goal.returns
 returns g c =
-    let light : weight c.vote_on_all-told.new.work ≤ c.args.t = omega (arith, c.weight_of.ensures, c.if-weight_of-t.false) in
-    let error : IsErrorOf (times c.args.basis.now) c.args.basis.now c.args.marks.now c.args.t c.args.list.now c.vote_on_all-told.new.work =
-    error_from c.args.basis.now c.args.marks.now c.args.t c.args.list.now c.is_undamaged.ensures.sound c.requires.word c.vote_on_all-told.new.work c.vote_on_all-told.ensures.word light c.vote_on_all-told.ensures.kept in
+    let light : weight c.vote_on_all.new.work ≤ c.args.t = omega (arith, c.weight_of.ensures, c.if-weight_of-t.false) in
+    let error : IsErrorOf (times c.args.basis.now) c.args.basis.now c.args.marks.now c.args.t c.args.list.now c.vote_on_all.new.work =
+    error_from c.args.basis.now c.args.marks.now c.args.t c.args.list.now c.is_undamaged.ensures.sound c.requires.word c.vote_on_all.new.work c.vote_on_all.ensures.word light c.in_ok-told.ensures.kept in
     record {
       error = error;
-      only = λ e x. sym (c.vote_on_all-told.ensures.found.error c.args.t e c.requires.bound x);
-      ledger = c.vote_on_all-told.ensures.found.ledger c.args.t c.vote_on_all-told.new.work c.requires.bound error;
-      few = c.vote_on_all-told.ensures.few;
+      only = λ e x. sym (c.in_ok-told.ensures.found.error c.args.t e c.requires.bound x);
+      ledger = c.in_ok-told.ensures.found.ledger c.args.t c.vote_on_all.new.work c.requires.bound error;
+      few = c.in_ok-told.ensures.few;
       none = tt;
-      room = c.vote_on_all-told.ensures.room;
+      room = c.vote_on_all.ensures.room;
       sound = c.is_undamaged.ensures.sound;
     }
