@@ -5,7 +5,8 @@ use Rattle.gf_theory.specs.Field.{gf_mul, IsModulus}
 use Rattle.linear_theory.proofs.Entries.{dot_entries}
 use Rattle.linear_theory.proofs.Tables.{length-rows_of}
 use Rattle.counting_theory.specs.Votes.{pairs}
-use Rattle.gf_linear.specs.Matrix.{Matrix, entry}
+use Rattle.gf_linear.specs.Cells.{cell}
+use Rattle.gf_linear.proofs.Steps.{All-cells}
 use Rattle.order_theory.specs.Basis.{Basis, IsSoundBasis, HasShape, rank_at, vector, dual, sum_at, pairs_at}
 use Rattle.order_theory.specs.Domains.{HasMembers}
 use Rattle.order_theory.specs.Laws.{OriginOf}
@@ -21,14 +22,14 @@ use Rattle.eval_basis.specs.Built.{IsBuilt, IsMemberIndex}
 use Rattle.eval_basis.proofs.Stepping.{field_of}
 use Rattle.eval_basis.proofs.TableCounts.{table_symbols, table_row, rows_words, rows_long, table_pairs}
 
-pub record ArePut (d : Domain) (modulus : ℕ) (points : List Point) (ranks labels vectors duals counts sums leads : List ℕ) (lists : Matrix) : Type 0 where
+pub record ArePut (d : Domain) (modulus : ℕ) (points : List Point) (ranks labels vectors duals counts sums leads : List ℕ) : Type 0 where
   pub some_points : 1 ≤ length points
   pub few_points : length points ≤ 1024
-  pub members : AreMembers d modulus points ranks vectors lists
-  pub tables : AreTables d modulus ranks lists labels duals counts sums leads
+  pub members : AreMembers d modulus points ranks vectors duals
+  pub tables : AreTables d modulus ranks labels counts sums leads
 
 module _ (d : Domain) (modulus : ℕ) (points : List Point) (lawful : IsOrderDomain d) (is_modulus : IsModulus d.bits modulus) (are : ArePoints d modulus points)
-    (ranks labels vectors duals counts sums leads : List ℕ) (lists : Matrix) (t : ArePut d modulus points ranks labels vectors duals counts sums leads lists) where
+    (ranks labels vectors duals counts sums leads : List ℕ) (t : ArePut d modulus points ranks labels vectors duals counts sums leads) where
   abbrev b : Basis
   b = basis_with d.bits modulus (length points) d.count ranks labels vectors duals counts sums leads
 
@@ -53,14 +54,14 @@ module _ (d : Domain) (modulus : ℕ) (points : List Point) (lawful : IsOrderDom
   leads_table : IsTable (length points) (λ i j. lead_at d modulus (slice_index ranks i) (slice_index ranks j)) leads
   leads_table = subst (λ (m : ℕ). IsTable m (λ i j. lead_at d modulus (slice_index ranks i) (slice_index ranks j)) leads) n_ranks t.tables.leads_are
 
-  duals_table : IsTable (length points) (entry lists) duals
-  duals_table = subst (λ (m : ℕ). IsTable m (entry lists) duals) t.members.are_lists.n_rows t.tables.duals_are
+  duals_table : IsTable (length points) (cell duals (length points)) duals
+  duals_table = record { long = t.members.n_duals; entries = λ i j li lj. refl }
 
   vector_is : (k p : ℕ) → k < length points → p < length points → vector b k p ≡ value_at d modulus points (slice_index ranks k) p
   vector_is k p lk lp = table_row (length points) (λ k p. value_at d modulus points (slice_index ranks k) p) vectors k p vectors_table lk lp
 
-  dual_is : (k p : ℕ) → k < length points → p < length points → dual b k p ≡ entry lists k p
-  dual_is k p lk lp = table_row (length points) (entry lists) duals k p duals_table lk lp
+  dual_is : (k p : ℕ) → k < length points → p < length points → dual b k p ≡ cell duals (length points) k p
+  dual_is k p lk lp = table_row (length points) (cell duals (length points)) duals k p duals_table lk lp
 
   has_members : HasMembers (gf_mul d.bits modulus) b (value_at d modulus points) (sum_or_count d) (lead_at d modulus)
   has_members = record {
@@ -96,7 +97,7 @@ module _ (d : Domain) (modulus : ℕ) (points : List Point) (lawful : IsOrderDom
     n_leads = length-rows_of (length points) (length points) leads;
     vector_words = rows_words d.bits (length points) vectors vectors_table.long
         (table_symbols (length points) (2 ^ d.bits) (λ k p. value_at d modulus points (slice_index ranks k) p) vectors t.some_points vectors_table (λ i j. value_at-symbol d modulus points lawful is_modulus are (slice_index ranks i) j));
-    dual_words = rows_words d.bits (length points) duals duals_table.long (table_symbols (length points) (2 ^ d.bits) (entry lists) duals t.some_points duals_table t.members.are_lists.over.below);
+    dual_words = rows_words d.bits (length points) duals duals_table.long (All-cells (λ x. x < 2 ^ d.bits) (length points) (length points) duals t.members.n_duals t.members.symbols);
     lead_words = rows_words d.bits (length points) leads leads_table.long t.tables.lead_symbols;
     sum_rows = rows_long (length points) sums sums_table.long;
     ranks_rise = t.members.rising;
@@ -108,7 +109,7 @@ module _ (d : Domain) (modulus : ℕ) (points : List Point) (lawful : IsOrderDom
     ranks_below = t.members.below;
     duals_fit = record {
       products = λ i j li lj.
-          dot_entries (gf_mul d.bits modulus) (length points) (vector b i) (dual b j) (value_at d modulus points (slice_index ranks i)) (entry lists j) (λ p lp. vector_is i p li lp) (λ p lp. dual_is j p lj lp)
+          dot_entries (gf_mul d.bits modulus) (length points) (vector b i) (dual b j) (value_at d modulus points (slice_index ranks i)) (cell duals (length points) j) (λ p lp. vector_is i p li lp) (λ p lp. dual_is j p lj lp)
           ∙ t.members.dual i j li lj;
     };
   }
@@ -142,26 +143,26 @@ table_long : (n m : ℕ) (f : ℕ → ℕ → ℕ) (xs : List ℕ) → n ≡ m �
 table_long n m f xs e h = h.long ∙ ap (λ (x : ℕ). x * x) e
 
 -- the same, with the numbers as the calls gave them
-pub stored_with : (d : Domain) (modulus : ℕ) (points : List Point) → IsOrderDomain d → IsModulus d.bits modulus → ArePoints d modulus points → (ranks labels vectors duals counts sums leads : List ℕ) (lists : Matrix)
-    → ArePut d modulus points ranks labels vectors duals counts sums leads lists → (bits n count : ℕ) → bits ≡ d.bits → n ≡ length points → count ≡ d.count
+pub stored_with : (d : Domain) (modulus : ℕ) (points : List Point) → IsOrderDomain d → IsModulus d.bits modulus → ArePoints d modulus points → (ranks labels vectors duals counts sums leads : List ℕ)
+    → ArePut d modulus points ranks labels vectors duals counts sums leads → (bits n count : ℕ) → bits ≡ d.bits → n ≡ length points → count ≡ d.count
     → IsStored bits modulus n count ranks labels vectors duals counts sums leads
-stored_with d modulus points lawful is_modulus are ranks labels vectors duals counts sums leads lists t bits n count e1 e2 e3 =
+stored_with d modulus points lawful is_modulus are ranks labels vectors duals counts sums leads t bits n count e1 e2 e3 =
     subst (λ (x : ℕ). IsStored x modulus n count ranks labels vectors duals counts sums leads) (sym e1)
     (subst (λ (x : ℕ). IsStored d.bits modulus x count ranks labels vectors duals counts sums leads) (sym e2)
     (subst (λ (x : ℕ). IsStored d.bits modulus (length points) x ranks labels vectors duals counts sums leads) (sym e3)
     (record {
       n_vectors = t.members.stored.n_vectors ∙ ap (λ (x : ℕ). x * length points) t.members.n_ranks;
-      n_duals = table_long (length lists.rows) (length points) (entry lists) duals t.members.are_lists.n_rows t.tables.duals_are;
+      n_duals = t.members.n_duals;
       n_sums = table_long (length ranks) (length points) (λ i j. sum_or_count d (slice_index ranks i) (slice_index ranks j)) sums t.members.n_ranks t.tables.sums_are;
       n_leads = table_long (length ranks) (length points) (λ i j. lead_at d modulus (slice_index ranks i) (slice_index ranks j)) leads t.members.n_ranks t.tables.leads_are;
-      sound = assembled_sound d modulus points lawful is_modulus are ranks labels vectors duals counts sums leads lists t;
+      sound = assembled_sound d modulus points lawful is_modulus are ranks labels vectors duals counts sums leads t;
     })))
 
-pub built_with : (d : Domain) (modulus : ℕ) (points : List Point) → IsOrderDomain d → IsModulus d.bits modulus → ArePoints d modulus points → (ranks labels vectors duals counts sums leads : List ℕ) (lists : Matrix)
-    → ArePut d modulus points ranks labels vectors duals counts sums leads lists → (bits n count : ℕ) → bits ≡ d.bits → n ≡ length points → count ≡ d.count
+pub built_with : (d : Domain) (modulus : ℕ) (points : List Point) → IsOrderDomain d → IsModulus d.bits modulus → ArePoints d modulus points → (ranks labels vectors duals counts sums leads : List ℕ)
+    → ArePut d modulus points ranks labels vectors duals counts sums leads → (bits n count : ℕ) → bits ≡ d.bits → n ≡ length points → count ≡ d.count
     → IsBuilt d modulus points (basis_with bits modulus n count ranks labels vectors duals counts sums leads)
-built_with d modulus points lawful is_modulus are ranks labels vectors duals counts sums leads lists t bits n count e1 e2 e3 =
+built_with d modulus points lawful is_modulus are ranks labels vectors duals counts sums leads t bits n count e1 e2 e3 =
     subst (λ (x : ℕ). IsBuilt d modulus points (basis_with x modulus n count ranks labels vectors duals counts sums leads)) (sym e1)
     (subst (λ (x : ℕ). IsBuilt d modulus points (basis_with d.bits modulus x count ranks labels vectors duals counts sums leads)) (sym e2)
     (subst (λ (x : ℕ). IsBuilt d modulus points (basis_with d.bits modulus (length points) x ranks labels vectors duals counts sums leads)) (sym e3)
-    (assembled_built d modulus points lawful is_modulus are ranks labels vectors duals counts sums leads lists t)))
+    (assembled_built d modulus points lawful is_modulus are ranks labels vectors duals counts sums leads t)))

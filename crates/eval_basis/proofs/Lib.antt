@@ -1,6 +1,7 @@
 pub mod FlatReads
 pub mod Marks
 pub mod ListSteps
+pub mod Orders
 pub mod Stepping
 pub mod Finding
 pub mod Pushing

@@ -1,148 +1,83 @@
--- The lists beside the members, after a write and after a step
-use Rattle.std.proofs.Common.{◌≡◌, ◌≢◌, ℕ, suc, ◌+◌, ◌<◌, ◌≤◌, ◌^◌, List, length, take, get_or, slice_index, sym, ◌∙◌, ap, subst, refl, inl, inr, arith, bit_xor, All}
+-- The lists by position: their products with values, and their symbols after one of them is taken
+use Rattle.std.proofs.Common.{◌≡◌, ℕ, suc, ◌+◌, ◌*◌, ◌<◌, ◌≤◌, ◌^◌, cond, eqb, List, length, take, drop, get_or, slice_index, sym, ◌∙◌, ap, inl, inr, arith, bit_xor}
 use Rattle.std.proofs.Math.ListN.{set}
+use Rattle.std.specs.Int.Bits.{xor_zero_r}
 use Rattle.std.proofs.lemmas.Bool.{cases_eq}
-use Rattle.std.proofs.lemmas.Nat.{pow_pos, pow_below}
-use Rattle.std.proofs.lemmas.List.{length-replicate, get_or-take}
+use Rattle.std.proofs.lemmas.Nat.{pow_below}
+use Rattle.std.proofs.lemmas.List.{get_or-set_same, get_or-set_other}
+use Rattle.field_theory.specs.Field.{IsField}
 use Rattle.field_theory.specs.Sums.{unit}
-use Rattle.field_theory.proofs.Sums.{eq_or_below}
-use Rattle.linear_theory.specs.Linear.{dot}
-use Rattle.linear_theory.proofs.Entries.{dot_entries}
+use Rattle.field_theory.proofs.Sums.{mul-zero, mul_one}
+use Rattle.gf_theory.specs.Field.{IsModulus}
+use Rattle.linear_theory.specs.Linear.{combine}
 use Rattle.linear_theory.proofs.Spans.{put-same, put-other}
-use Rattle.gf_theory.specs.Field.{gf_mul, IsModulus}
-use Rattle.gf_theory.proofs.Product.{gf_mul_comm}
-use Rattle.gf_linear.specs.Matrix.{Matrix, row, entry, zero_matrix, with_row, with_entry}
-use Rattle.gf_linear.proofs.Writes.{length-with_row, row-with_row, row-with_row_other, entry-with_entry, entry-with_entry_other, over-with_row, over-with_entry, entry-zero_matrix, matrix-with_row, matrix-with_entry, matrix-zero_matrix}
-use Rattle.eval_basis.specs.Lists.{AreLists, AreKept, IsPivot}
-
-pub lists_zero : (bits n : ℕ) (m : Matrix) → m ≡ zero_matrix n (n + 1) → n ≤ 1024 → AreLists bits n m
-lists_zero bits n m e l = subst (λ (w : Matrix). AreLists bits n w) (sym e) (record {
-  is_matrix = matrix-zero_matrix n (n + 1) l (omega arith);
-  n_rows = length-replicate n _;
-  n_cols = refl;
-  over = record { below = λ i j. subst (λ (x : ℕ). x < 2 ^ bits) (sym (entry-zero_matrix n (n + 1) i j)) (pow_pos bits) };
-})
-
-pub lists_set : (bits n : ℕ) (m now : Matrix) (i j v : ℕ) → AreLists bits n m → now ≡ with_entry m i j v → i < n → j < n + 1 → v < 2 ^ bits → AreLists bits n now
-lists_set bits n m now i j v h e li lj lv =
-    let at : i < length m.rows = subst (λ (s : ℕ). i < s) (sym h.n_rows) li in
-    let long : j < length (row m i) = subst (λ (s : ℕ). j < s) (sym (h.is_matrix.width i at ∙ h.n_cols)) lj in
-    subst (λ (w : Matrix). AreLists bits n w) (sym e) (record {
-      is_matrix = matrix-with_entry m i j v h.is_matrix at;
-      n_rows = length-with_row m i (set (row m i) j v) ∙ h.n_rows;
-      n_cols = h.n_cols;
-      over = over-with_entry bits m i j v h.over lv at long;
-    })
-
-pub lists_set_row : (bits n : ℕ) (m now : Matrix) (i : ℕ) (r : List ℕ) → AreLists bits n m → now ≡ with_row m i r → length r ≡ n + 1 → All (λ x. x < 2 ^ bits) r → AreLists bits n now
-lists_set_row bits n m now i r h e long low = subst (λ (w : Matrix). AreLists bits n w) (sym e) (record {
-  is_matrix = matrix-with_row m i r h.is_matrix (long ∙ sym h.n_cols);
-  n_rows = length-with_row m i r ∙ h.n_rows;
-  n_cols = h.n_cols;
-  over = over-with_row bits m i r h.over low;
-})
-
-pub entry_set : (bits n : ℕ) (m now : Matrix) (i j v : ℕ) → AreLists bits n m → now ≡ with_entry m i j v → i < n → j < n + 1 → entry now i j ≡ v
-entry_set bits n m now i j v h e li lj =
-    let at : i < length m.rows = subst (λ (s : ℕ). i < s) (sym h.n_rows) li in
-    ap (λ (w : Matrix). entry w i j) e ∙ entry-with_entry m i j v at (subst (λ (s : ℕ). j < s) (sym (h.is_matrix.width i at ∙ h.n_cols)) lj)
-
-pub entry_kept : (m now : Matrix) (i j v q p : ℕ) → now ≡ with_entry m i j v → (q ≡ i → p ≢ j) → entry now q p ≡ entry m q p
-entry_kept m now i j v q p e d = ap (λ (w : Matrix). entry w q p) e ∙ entry-with_entry_other m i j v q p d
-
--- ---- the unit lists, one after the other
-pub record AreUnits (n q : ℕ) (m : Matrix) : Type 0 where
-  pub made : (i p : ℕ) → i < q → entry m i p ≡ unit i p
-  pub zero_after : (i p : ℕ) → q ≤ i → entry m i p ≡ 0
-
-pub units_none : (n : ℕ) (m : Matrix) → m ≡ zero_matrix n (n + 1) → AreUnits n 0 m
-units_none n m e = record { made = λ i p l. absurd (omega arith); zero_after = λ i p l. ap (λ (w : Matrix). entry w i p) e ∙ entry-zero_matrix n (n + 1) i p }
-
-pub units_more : (bits n q : ℕ) (m now : Matrix) → AreLists bits n m → AreUnits n q m → now ≡ with_entry m q q 1 → q < n → AreUnits n (q + 1) now
-units_more bits n q m now h u e l = record {
-  made = λ i p li. elim (eq_or_below i q (let w : i < suc q = omega arith in w)) [
-    | inr b ↦ entry_kept m now q q 1 i p e (λ f. absurd (omega arith)) ∙ u.made i p b
-    | inl f ↦ subst (λ (s : ℕ). entry now s p ≡ unit s p) (sym f) (elim (cases_eq p q) [
-      | inl g ↦ subst (λ (s : ℕ). entry now q s ≡ unit q s) (sym g) (entry_set bits n m now q q 1 h e l (omega arith) ∙ sym (put-same (λ i. 0) q 1))
-      | inr d ↦ entry_kept m now q q 1 q p e (λ _. d) ∙ u.zero_after q p (omega arith) ∙ sym (put-other (λ i. 0) q 1 p d)
-    ])
-  ];
-  zero_after = λ i p li. entry_kept m now q q 1 i p e (λ f. absurd (omega arith)) ∙ u.zero_after i p (omega arith);
-}
+use Rattle.gf_linear.specs.Cells.{cell}
+use Rattle.gf_linear.proofs.Steps.{part-row}
+use Rattle.eval_basis.specs.Lists.{taken}
 
 pub one_symbol : (bits modulus : ℕ) → IsModulus bits modulus → 1 < 2 ^ bits
 one_symbol bits modulus h = let two : 2 ≤ bits = h.at_least_two in let k : 2 ^ 0 < 2 ^ bits = pow_below 0 bits (omega arith) in k
 
--- ---- the products, one list after the other
-pub kept_none : (n : ℕ) (m : Matrix) → AreKept n m m
-kept_none n m = record { same = λ q p lq lp. refl }
+module _ (size : ℕ) (mul : ℕ → ℕ → ℕ) (field : IsField size mul) where
+  -- one row more in a combination
+  combine_more : (p : ℕ) (c : ℕ → ℕ) (rows : ℕ → ℕ → ℕ) (q : ℕ) → combine mul (p + 1) c rows q ≡ bit_xor (combine mul p c rows q) (mul (c p) (rows p q))
+  combine_more p c rows q = ap (λ (s : ℕ). combine mul s c rows q) (let e : p + 1 ≡ suc p = omega arith in e)
 
-pub kept_more : (n : ℕ) (first m now : Matrix) (q v : ℕ) → AreKept n first m → now ≡ with_entry m q n v → AreKept n first now
-kept_more n first m now q v h e = record { same = λ i p li lp. entry_kept m now q n v i p e (λ _ f. absurd (omega arith)) ∙ h.same i p li lp }
+  pub multiplied_used : (n p k : ℕ) (values symbols xs ys : List ℕ) → k ≡ n → ((q : ℕ) → q < n → get_or xs q 0 ≡ combine mul p (slice_index values) (cell symbols n) q)
+      → ((q : ℕ) → q < n → get_or ys q 0 ≡ bit_xor (get_or xs q 0) (mul (get_or values p 0) (get_or (take k (drop (p * n) symbols)) q 0)))
+      → (q : ℕ) → q < n → get_or ys q 0 ≡ combine mul (p + 1) (slice_index values) (cell symbols n) q
+  multiplied_used n p k values symbols xs ys e before is q l =
+      is q l ∙ ap (λ (y : ℕ). bit_xor y (mul (get_or values p 0) (get_or (take k (drop (p * n) symbols)) q 0))) (before q l)
+      ∙ ap (λ (y : ℕ). bit_xor (combine mul p (slice_index values) (cell symbols n) q) (mul (get_or values p 0) y)) (part-row n p k symbols q e l)
+      ∙ sym (combine_more p (slice_index values) (cell symbols n) q)
 
--- beside the lists before q stand their products
-pub record AreMultiplied (mul : ℕ → ℕ → ℕ) (n q : ℕ) (values : List ℕ) (first m : Matrix) : Type 0 where
-  pub products : (i : ℕ) → i < q → entry m i n ≡ dot mul n (slice_index values) (entry first i)
+  -- a row that is a unit
+  pub multiplied_unit : (n p v : ℕ) (values symbols xs : List ℕ) → p < length xs → get_or values p 0 < size → ((q : ℕ) → q < n → cell symbols n p q ≡ unit p q)
+      → v ≡ bit_xor (get_or xs p 0) (get_or values p 0) → ((q : ℕ) → q < n → get_or xs q 0 ≡ combine mul p (slice_index values) (cell symbols n) q)
+      → (q : ℕ) → q < n → get_or (set xs p v) q 0 ≡ combine mul (p + 1) (slice_index values) (cell symbols n) q
+  multiplied_unit n p v values symbols xs room low units is before q l =
+      elim (cases_eq q p) [
+        | inl e ↦
+            let one : cell symbols n p q ≡ 1 = units q l ∙ ap (λ (s : ℕ). unit p s) e ∙ put-same (λ x. 0) p 1 in
+            ap (λ (s : ℕ). get_or (set xs p v) s 0) e ∙ get_or-set_same xs p v 0 room ∙ is
+            ∙ ap (λ (s : ℕ). bit_xor (get_or xs s 0) (get_or values p 0)) (sym e)
+            ∙ ap (λ (y : ℕ). bit_xor y (get_or values p 0)) (before q l)
+            ∙ ap (λ (y : ℕ). bit_xor (combine mul p (slice_index values) (cell symbols n) q) y)
+            (sym (ap (λ (y : ℕ). mul (get_or values p 0) y) one ∙ mul_one size mul field (get_or values p 0) low))
+        | inr d ↦
+            let zero : cell symbols n p q ≡ 0 = units q l ∙ put-other (λ x. 0) p 1 q d in
+            get_or-set_other xs p q v 0 d ∙ before q l ∙ sym (xor_zero_r (combine mul p (slice_index values) (cell symbols n) q))
+            ∙ ap (λ (y : ℕ). bit_xor (combine mul p (slice_index values) (cell symbols n) q) y)
+            (sym (ap (λ (y : ℕ). mul (get_or values p 0) y) zero ∙ mul-zero size mul field (get_or values p 0)))
+      ]
+      ∙ sym (combine_more p (slice_index values) (cell symbols n) q)
 
-pub multiplied_more : (mul : ℕ → ℕ → ℕ) (bits n q v : ℕ) (values r : List ℕ) (first m now : Matrix) → AreLists bits n m → AreKept n first m → AreMultiplied mul n q values first m → now ≡ with_entry m q n v → q < n
-    → r ≡ row m q → v ≡ dot mul n (slice_index values) (slice_index (take n r)) → AreMultiplied mul n (q + 1) values first now
-multiplied_more mul bits n q v values r first m now h kept p e l is_row is = record {
-  products = λ i li. elim (eq_or_below i q (let w : i < suc q = omega arith in w)) [
-    | inr b ↦ entry_kept m now q n v i n e (λ f. absurd (omega arith)) ∙ p.products i b
+  -- ---- one position: x is the factor times its symbol in list q
+  pub taken_here : (factor q x j : ℕ) (row ys products : List ℕ) → q < length row → x ≡ mul factor (get_or row q 0) → x < size → get_or products q 0 ≡ 1
+      → get_or ys j 0 ≡ bit_xor (get_or (set row q 0) j 0) (mul x (get_or products j 0)) → get_or ys j 0 ≡ taken mul factor q (slice_index row) (slice_index products) j
+  taken_here factor q x j row ys products l e low one is = is ∙ elim (cases_eq j q) [
     | inl f ↦
-        subst (λ (s : ℕ). entry now s n ≡ dot mul n (slice_index values) (entry first s)) (sym f)
-        (entry_set bits n m now q n v h e l (omega arith) ∙ is
-        ∙ dot_entries mul n (slice_index values) (slice_index (take n r)) (slice_index values) (entry first q) (λ s ls. refl)
-        (λ s ls. get_or-take n r s 0 ls ∙ ap (λ (w : List ℕ). get_or w s 0) is_row ∙ kept.same q s l ls))
-  ];
-}
+        ap (λ (s : ℕ). bit_xor (get_or (set row q 0) s 0) (mul x (get_or products s 0))) f
+        ∙ ap (λ (y : ℕ). bit_xor y (mul x (get_or products q 0))) (get_or-set_same row q 0 0 l)
+        ∙ ap (λ (y : ℕ). bit_xor 0 (mul x y)) one ∙ mul_one size mul field x low ∙ e
+        ∙ sym (ap (λ (s : ℕ). taken mul factor q (slice_index row) (slice_index products) s) f ∙ put-same (λ s. bit_xor (get_or row s 0) (mul (mul factor (get_or row q 0)) (get_or products s 0))) q (mul factor (get_or row q 0)))
+    | inr d ↦
+        ap (λ (y : ℕ). bit_xor y (mul x (get_or products j 0))) (get_or-set_other row q j 0 0 d)
+        ∙ ap (λ (y : ℕ). bit_xor (get_or row j 0) (mul y (get_or products j 0))) e
+        ∙ sym (put-other (λ s. bit_xor (get_or row s 0) (mul (mul factor (get_or row q 0)) (get_or products s 0))) q (mul factor (get_or row q 0)) j d)
+  ]
 
--- ---- the pivot
--- list q, with what stood in its room before it was added
-pub pivot_made : (bits modulus n k q x : ℕ) (m : Matrix) (room pivot list : List ℕ) → list ≡ row m q → gf_mul bits modulus (get_or list n 0) x ≡ 1
-    → (q ≡ k → (p : ℕ) → p < n + 1 → get_or room p 0 ≡ 0) → (q ≢ k → room ≡ row m k)
-    → ((p : ℕ) → p < n + 1 → get_or pivot p 0 ≡ bit_xor (get_or room p 0) (gf_mul bits modulus x (get_or list p 0))) → IsPivot bits modulus n k q m pivot
-pivot_made bits modulus n k q x m room pivot list is inverse zeros old value =
-    let at : (p : ℕ) → get_or list p 0 ≡ entry m q p = λ p. ap (λ (w : List ℕ). get_or w p 0) is in
-    record {
-      factor = x;
-      inverse = gf_mul_comm bits modulus x (entry m q n) ∙ ap (λ (y : ℕ). gf_mul bits modulus y x) (sym (at n)) ∙ inverse;
-      scaled = λ e p l. value p l ∙ ap (λ (y : ℕ). bit_xor y (gf_mul bits modulus x (get_or list p 0))) (zeros e p l) ∙ ap (λ (y : ℕ). bit_xor 0 (gf_mul bits modulus x y)) (at p);
-      added = λ d p l.
-          value p l ∙ ap (λ (y : ℕ). bit_xor y (gf_mul bits modulus x (get_or list p 0))) (ap (λ (w : List ℕ). get_or w p 0) (old d))
-          ∙ ap (λ (y : ℕ). bit_xor (entry m k p) (gf_mul bits modulus x y)) (at p);
-    }
+-- the product of list q itself is not asked for
+pub taken_same : (mul : ℕ → ℕ → ℕ) (factor q v j : ℕ) (row : ℕ → ℕ) (products : List ℕ) → taken mul factor q row (slice_index (set products q v)) j ≡ taken mul factor q row (slice_index products) j
+taken_same mul factor q v j row products = elim (cases_eq j q) [
+  | inl e ↦
+      ap (λ (s : ℕ). taken mul factor q row (slice_index (set products q v)) s) e ∙ put-same (λ s. bit_xor (row s) (mul (mul factor (row q)) (slice_index (set products q v) s))) q (mul factor (row q))
+      ∙ sym (ap (λ (s : ℕ). taken mul factor q row (slice_index products) s) e ∙ put-same (λ s. bit_xor (row s) (mul (mul factor (row q)) (slice_index products s))) q (mul factor (row q)))
+  | inr d ↦ ap (λ (y : ℕ). cond (eqb j q) (mul factor (row q)) (bit_xor (row j) (mul (mul factor (row q)) y))) (get_or-set_other products q j v 0 d)
+]
 
--- ---- the other lists, one after the other
-pub record AreClearedBefore (bits modulus n k q : ℕ) (pivot : List ℕ) (first m : Matrix) : Type 0 where
-  pub kept_at : (p : ℕ) → entry m k p ≡ entry first k p
-  pub done : (i p : ℕ) → i < q → i ≢ k → p < n + 1 → entry m i p ≡ bit_xor (entry first i p) (gf_mul bits modulus (entry first i n) (get_or pivot p 0))
-  pub rest : (i p : ℕ) → q ≤ i → entry m i p ≡ entry first i p
-
-pub cleared_none : (bits modulus n k : ℕ) (pivot : List ℕ) (m : Matrix) → AreClearedBefore bits modulus n k 0 pivot m m
-cleared_none bits modulus n k pivot m = record { kept_at = λ p. refl; done = λ i p l d lp. absurd (omega arith); rest = λ i p l. refl }
-
-pub cleared_pass : (bits modulus n k q : ℕ) (pivot : List ℕ) (first m : Matrix) → AreClearedBefore bits modulus n k q pivot first m → q ≡ k → AreClearedBefore bits modulus n k (q + 1) pivot first m
-cleared_pass bits modulus n k q pivot first m h e = record {
-  kept_at = h.kept_at;
-  done = λ i p l d lp. h.done i p (omega arith) d lp;
-  rest = λ i p l. h.rest i p (omega arith);
-}
-
-pub cleared_more : (bits modulus n k q x : ℕ) (pivot old r : List ℕ) (first m now : Matrix) → AreLists bits n m → AreClearedBefore bits modulus n k q pivot first m → q ≢ k → q < n → old ≡ row m q → x ≡ get_or old n 0
-    → ((p : ℕ) → p < n + 1 → get_or r p 0 ≡ bit_xor (get_or old p 0) (gf_mul bits modulus x (get_or pivot p 0))) → now ≡ with_row m q r → AreClearedBefore bits modulus n k (q + 1) pivot first now
-cleared_more bits modulus n k q x pivot old r first m now lists h d l is_row is value e =
-    let other : (i p : ℕ) → i ≢ q → entry now i p ≡ entry m i p = λ i p f. ap (λ (w : Matrix). entry w i p) e ∙ ap (λ (w : List ℕ). get_or w p 0) (row-with_row_other m q i r f) in
-    let here : (p : ℕ) → entry now q p ≡ get_or r p 0 = λ p. ap (λ (w : Matrix). entry w q p) e ∙ ap (λ (w : List ℕ). get_or w p 0) (row-with_row m q r (subst (λ (s : ℕ). q < s) (sym lists.n_rows) l)) in
-    let was : (p : ℕ) → get_or old p 0 ≡ entry first q p = λ p. ap (λ (w : List ℕ). get_or w p 0) is_row ∙ h.rest q p (omega arith) in
-    record {
-      kept_at = λ p. other k p (λ f. d (sym f)) ∙ h.kept_at p;
-      done = λ i p li di lp. elim (cases_eq i q) [
-        | inr f ↦ other i p f ∙ h.done i p (omega arith) di lp
-        | inl f ↦
-            subst (λ (s : ℕ). entry now s p ≡ bit_xor (entry first s p) (gf_mul bits modulus (entry first s n) (get_or pivot p 0))) (sym f)
-            (here p ∙ value p lp ∙ ap (λ (y : ℕ). bit_xor y (gf_mul bits modulus x (get_or pivot p 0))) (was p)
-            ∙ ap (λ (y : ℕ). bit_xor (entry first q p) (gf_mul bits modulus y (get_or pivot p 0))) (is ∙ was n))
-      ];
-      rest = λ i p li. other i p (λ f. omega arith) ∙ h.rest i p (omega arith);
-    }
+-- a position as it is read
+pub taken_row : (mul : ℕ → ℕ → ℕ) (factor q j : ℕ) (row other : ℕ → ℕ) (products : ℕ → ℕ) → row j ≡ other j → row q ≡ other q → taken mul factor q row products j ≡ taken mul factor q other products j
+taken_row mul factor q j row other products e f =
+    ap (λ (y : ℕ). cond (eqb j q) (mul factor (row q)) (bit_xor y (mul (mul factor (row q)) (products j)))) e
+    ∙ ap (λ (y : ℕ). cond (eqb j q) (mul factor y) (bit_xor (other j) (mul (mul factor y) (products j)))) f

@@ -1,23 +1,25 @@
 -- AreStored     the values of the functions with these indices at the points, row by row
--- AreTables     the tables of these members: labels, dual lists, pair counts, sums and leads
+-- AreTables     the tables of these members: labels, pair counts, sums and leads
+-- AreFirstLists the unit lists, in the order of their numbers, by position, and no position is used
+-- AreMarked     the marks of functions after those of the sums with a function were set
 -- AreMembers    the members: the indices of the functions that are no combination of the functions before them, as many as
---               there are points, with their values, and lists that are dual to these
-use Rattle.std.specs.Prelude.{◌≡◌, ◌≢◌, ℕ, ◌+◌, ◌*◌, ◌^◌, ◌<◌, ◌==◌, List, length, slice_index, count_by, All}
+--               there are points, with their values, and lists that are dual to these, row by row
+use Rattle.std.specs.Prelude.{◌≡◌, ◌≢◌, ◌⊎◌, ℕ, ◌+◌, ◌*◌, ◌^◌, ◌<◌, ◌==◌, Bool, true, Some, List, length, slice_index, count_by, All}
 use Rattle.field_theory.specs.Sums.{unit}
 use Rattle.gf_theory.specs.Field.{gf_mul}
 use Rattle.linear_theory.specs.Linear.{dot, IsCombination}
-use Rattle.gf_linear.specs.Matrix.{Matrix, entry}
+use Rattle.order_theory.specs.Codes.{marked}
+use Rattle.gf_linear.specs.Cells.{cell}
 use Rattle.order_domain.specs.declared.Point.{Point}
 use Rattle.order_domain.specs.Domain.{Domain}
 use Rattle.order_domain.specs.Values.{value_at, sum_or_count, lead_at}
 use Rattle.eval_basis.specs.Flat.{IsList, IsTable}
-use Rattle.eval_basis.specs.Lists.{AreLists}
 
 pub record AreStored (d : Domain) (modulus : ℕ) (points : List Point) (ranks vectors : List ℕ) : Type 0 where
   pub n_vectors : length vectors ≡ length ranks * length points
   pub values : (k p : ℕ) → k < length ranks → p < length points → slice_index vectors (k * length points + p) ≡ value_at d modulus points (slice_index ranks k) p
 
-pub record AreMembers (d : Domain) (modulus : ℕ) (points : List Point) (ranks vectors : List ℕ) (lists : Matrix) : Type 0 where
+pub record AreMembers (d : Domain) (modulus : ℕ) (points : List Point) (ranks vectors duals : List ℕ) : Type 0 where
   pub n_ranks : length ranks ≡ length points
   pub below : (k : ℕ) → k < length points → slice_index ranks k < d.count
   pub rising : (j k : ℕ) → j < k → k < length points → slice_index ranks j < slice_index ranks k
@@ -26,14 +28,23 @@ pub record AreMembers (d : Domain) (modulus : ℕ) (points : List Point) (ranks 
   pub others : (i : ℕ) → i < d.count → ((k : ℕ) → k < length points → i ≢ slice_index ranks k) →
       IsCombination (gf_mul d.bits modulus) (length points) (value_at d modulus points) i (value_at d modulus points i)
   pub stored : AreStored d modulus points ranks vectors
-  pub are_lists : AreLists d.bits (length points) lists
+  pub n_duals : length duals ≡ length points * length points
+  pub symbols : (q p : ℕ) → q < length points → p < length points → cell duals (length points) q p < 2 ^ d.bits
   pub dual : (k q : ℕ) → k < length points → q < length points →
-      dot (gf_mul d.bits modulus) (length points) (value_at d modulus points (slice_index ranks k)) (entry lists q) ≡ unit k q
+      dot (gf_mul d.bits modulus) (length points) (value_at d modulus points (slice_index ranks k)) (cell duals (length points) q) ≡ unit k q
 
-pub record AreTables (d : Domain) (modulus : ℕ) (ranks : List ℕ) (lists : Matrix) (labels duals counts sums leads : List ℕ) : Type 0 where
+pub record AreTables (d : Domain) (modulus : ℕ) (ranks labels counts sums leads : List ℕ) : Type 0 where
   pub labels_are : IsList (length ranks) (λ k. d.label (slice_index ranks k)) labels
-  pub duals_are : IsTable (length lists.rows) (entry lists) duals
   pub counts_are : IsList (length ranks) (λ k. count_by (λ s. s == slice_index ranks k) sums) counts
   pub sums_are : IsTable (length ranks) (λ i j. sum_or_count d (slice_index ranks i) (slice_index ranks j)) sums
   pub leads_are : IsTable (length ranks) (λ i j. lead_at d modulus (slice_index ranks i) (slice_index ranks j)) leads
   pub lead_symbols : All (λ x. x < 2 ^ d.bits) leads
+
+pub record AreFirstLists (bits n : ℕ) (symbols order : List ℕ) (used : List Bool) : Type 0 where
+  pub symbols_are : IsTable n unit symbols
+  pub over : All (λ x. x < 2 ^ bits) symbols
+  pub order_is : IsList n (λ k. k) order
+  pub n_used : length used ≡ n
+
+pub record AreMarked (d : Domain) (i : ℕ) (old now : List Bool) : Type 0 where
+  pub marks : (s : ℕ) → marked now s ≡ true → (marked old s ≡ true) ⊎ ((g : ℕ) × (g < d.count) × (d.sum g i ≡ Some s))

@@ -40,9 +40,9 @@ impl<F: Field> EvalBasis<F> {
         let Members {
             ranks,
             vectors,
-            lists,
+            duals,
         } = find_members(alloc, &field, dom, points)?;
-        let tables = tables_of(alloc, &field, dom, &ranks, &lists)?;
+        let tables = tables_of(alloc, &field, dom, &ranks)?;
         Ok(EvalBasis {
             field,
             n,
@@ -51,7 +51,7 @@ impl<F: Field> EvalBasis<F> {
             labels: tables.labels,
             pair_counts: tables.pair_counts,
             vectors,
-            duals: tables.duals,
+            duals,
             sums: tables.sums,
             leads: tables.leads,
         })

@@ -1,143 +1,197 @@
 //! One step of the search for the functions that are no combination of those before them. Beside the members found so far
-//! it keeps n lists: the first are dual to the members, and the others vanish on them. A function is new exactly where one
-//! of the others does not vanish on it.
+//! it keeps n lists in an order: the first are dual to the members, and the others vanish on them. A function is new exactly
+//! where one of the others does not vanish on it.
+//!
+//! The lists are stored by position: row p of `symbols` has the symbols of all lists at position p. So the products of a
+//! function with all lists are one combination of rows, and a list that is taken changes each row by one multiple of the
+//! products. A position is not used, and its row still a unit, until the list of its own number is taken.
 
-ghost use Rattle.std.specs.Prelude.{ℕ, ◌≡◌, ◌≢◌, ◌+◌, ◌<◌, ◌≤◌, ◌^◌, bit_xor, length, slice_index, All, IfOk, IsTrue, MatchOption, if◌then◌else◌, ◌==◌};
+ghost use Rattle.std.specs.Prelude.{ℕ, ◌≡◌, ◌≢◌, ◌+◌, ◌*◌, ◌<◌, ◌≤◌, ◌^◌, false, length, slice_index, All, IfOk, IsTrue, MatchOption};
 ghost use Rattle.field_theory.specs.Sums.{unit};
 ghost use Rattle.gf_theory.specs.Field.{gf_mul};
-ghost use Rattle.linear_theory.specs.Linear.{dot as dot_of};
-ghost use Rattle.gf_linear.specs.Matrix.{entry, row as row_of};
-ghost use Rattle.eval_basis.specs.Lists.{AreLists, AreKept, IsPivot, IsStep};
+ghost use Rattle.linear_theory.specs.Linear.{combine};
+ghost use Rattle.order_theory.specs.Codes.{marked};
+ghost use Rattle.gf_linear.specs.Cells.{cell};
+ghost use Rattle.eval_basis.specs.Flat.{IsList, IsTable};
+ghost use Rattle.eval_basis.specs.Lists.{AreLists, IsTaken, IsStep, list_of, taken};
 
 use gf_field::Field;
-use gf_linear::{Matrix, add_scaled, dot};
+use gf_linear::add_scaled;
 use std::alloc::{AllocError, Global};
 
-/// The n lists before the first function, with room for their products: list q is 1 at place q, and 0 elsewhere.
-pub fn unit_lists<F: Field>(alloc: Global, f: &F, n: u32) -> Result<Matrix, AllocError>
-    requires { n ≤ 1024 }
-    ensures lists { IfOk result (AreLists (F.bits_of f.now) n) }
-    ensures units { IfOk result (λ m. (q p : ℕ) → q < n → p < n → entry m q p ≡ unit q p) }
+// The symbol of list q at position p, before the first function.
+fn unit_symbol<F: Field>(f: &F, p: usize, q: usize) -> u8
+    ensures value { result ≡ unit p q }
+    ensures symbol { result < 2 ^ F.bits_of f.now }
 {
     f.bits();
-    let mut lists = Matrix::new(alloc, n, n + 1)?;
-    for q in 0..n {
-        lists.set(q, q, 1);
+    if q == p { 1 } else { 0 }
+}
+
+/// The lists before the first function: list q is 1 at position q, and 0 elsewhere.
+#[tactic(auto, using(crate::proofs::Pushing::pushing))]
+pub fn unit_lists<F: Field>(alloc: Global, f: &F, n: usize) -> Result<Vec<u8>, AllocError>
+    requires { n ≤ 1024 }
+    ensures lists { IfOk result (λ v. IsTable n unit v.items) }
+    ensures symbols { IfOk result (λ v. All (λ x. x < 2 ^ F.bits_of f.now) v.items) }
+{
+    let mut symbols = Vec::with_capacity(alloc, n * n)?;
+    for p in 0..n {
+        for q in 0..n {
+            symbols.push(unit_symbol(f, p, q))?;
+        }
+    }
+    Ok(symbols)
+}
+
+/// The order of the lists before the first function: by their numbers.
+#[tactic(auto, using(crate::proofs::Pushing::pushing))]
+pub fn first_order(alloc: Global, n: usize) -> Result<Vec<u32>, AllocError>
+    requires { n ≤ 1024 }
+    ensures { IfOk result (λ v. IsList n (λ k. k) v.items) }
+{
+    let mut order = Vec::with_capacity(alloc, n)?;
+    for k in 0..n {
+        order.push(k as u32)?;
+    }
+    Ok(order)
+}
+
+/// The lists in their order, one after the other.
+#[tactic(auto, using(crate::proofs::Pushing::pushing))]
+pub fn in_order(alloc: Global, symbols: &[u8], order: &[u32]) -> Result<Vec<u8>, AllocError>
+    requires few { length order.now ≤ 1024 }
+    requires fits { length symbols.now ≡ length order.now * length order.now }
+    requires numbers { (k : ℕ) → k < length order.now →
+        slice_index order.now k < length order.now }
+    ensures { IfOk result (λ v. IsTable (length order.now)
+        (list_of (length order.now) symbols.now order.now) v.items) }
+{
+    let n = order.len();
+    let mut lists = Vec::with_capacity(alloc, n * n)?;
+    for k in 0..n {
+        for p in 0..n {
+            lists.push(symbols[p * n + order[k] as usize])?;
+        }
     }
     Ok(lists)
 }
 
-/// Writes beside each list its product with the values.
-fn multiply<F: Field>(f: &F, values: &[u8], lists: &mut Matrix)
+// The products of the values with all lists.
+fn multiply<F: Field>(f: &F, values: &[u8], symbols: &[u8], used: &[bool], products: &mut [u8])
     requires few { length values.now ≤ 1024 }
-    requires lists { AreLists (F.bits_of f.now) (length values.now) lists.old }
+    requires fits { length symbols.now ≡ length values.now * length values.now }
+    requires marks { length used.now ≡ length values.now }
+    requires room { length products.old ≡ length values.now }
     requires values { All (λ x. x < 2 ^ F.bits_of f.now) values.now }
-    ensures lists { AreLists (F.bits_of f.now) (length values.now) lists.new }
-    ensures kept { AreKept (length values.now) lists.old lists.new }
-    ensures products { (q : ℕ) → q < length values.now →
-        entry lists.new q (length values.now)
-        ≡ dot_of (gf_mul (F.bits_of f.now) (F.modulus_of f.now)) (length values.now)
-        (slice_index values.now) (entry lists.old q) }
+    requires symbols { All (λ x. x < 2 ^ F.bits_of f.now) symbols.now }
+    requires units { (p q : ℕ) → p < length values.now → q < length values.now →
+        marked used.now p ≡ false → cell symbols.now (length values.now) p q ≡ unit p q }
+    ensures products { (q : ℕ) → q < length values.now → slice_index products.new q
+        ≡ combine (gf_mul (F.bits_of f.now) (F.modulus_of f.now)) (length values.now)
+        (slice_index values.now) (cell symbols.now (length values.now)) q }
+    ensures symbols { All (λ x. x < 2 ^ F.bits_of f.now) products.new }
 {
+    f.bits();
     let n = values.len();
-    for q in 0..n as u32 {
-        let product = dot(f, values, &lists.row(q)[..n]);
-        lists.set(q, n as u32, product);
+    products.fill(0);
+    for p in 0..n {
+        if used[p] {
+            add_scaled(f, products, values[p], &symbols[p * n..p * n + n]);
+        } else {
+            products[p] = f.add(products[p], values[p]);
+        }
     }
 }
 
-/// The first list from list k on whose product is not 0.
-fn first_seeing(lists: &Matrix, k: u32) -> Option<u32>
-    requires { lists.now.cols ≡ length lists.now.rows + 1 }
+// The first place in the order, from k on, of a list whose product is not 0.
+fn first_seeing(products: &[u8], order: &[u32], k: usize) -> Option<usize>
+    requires { (i : ℕ) → i < length order.now →
+        slice_index order.now i < length products.now }
     ensures { MatchOption result
-        ((q : ℕ) → k ≤ q → q < length lists.now.rows →
-        entry lists.now q (length lists.now.rows) ≡ 0)
-        (λ q. (k ≤ q) × (q < length lists.now.rows)
-        × (entry lists.now q (length lists.now.rows) ≢ 0)
-        × ((p : ℕ) → k ≤ p → p < q → entry lists.now p (length lists.now.rows) ≡ 0)) }
+        ((i : ℕ) → k ≤ i → i < length order.now →
+        slice_index products.now (slice_index order.now i) ≡ 0)
+        (λ i. (k ≤ i) × (i < length order.now)
+        × (slice_index products.now (slice_index order.now i) ≢ 0)) }
 {
-    let n = lists.rows();
-    for q in k..n {
-        if lists.row(q)[n as usize] != 0 {
-            return Some(q);
+    for i in k..order.len() {
+        if products[order[i] as usize] != 0 {
+            return Some(i);
         }
     }
     None
 }
 
-/// What comes to stand at k, with product 1: list q, scaled, and list k too where that is another one.
-fn pivot_list<F: Field>(f: &F, lists: &Matrix, k: u32, q: u32, pivot: &mut [u8])
-    requires lists { AreLists (F.bits_of f.now) (length lists.now.rows) lists.now }
-    requires place { k ≤ q }
-    requires list { q < length lists.now.rows }
-    requires seeing { entry lists.now q (length lists.now.rows) ≢ 0 }
-    requires room { length pivot.old ≡ length lists.now.rows + 1 }
-    ensures symbols { All (λ x. x < 2 ^ F.bits_of f.now) pivot.new }
-    ensures pivot { IsPivot (F.bits_of f.now) (F.modulus_of f.now) (length lists.now.rows) k q
-        lists.now pivot.new }
+// The symbols of all lists at one position, where list q is taken. Its product is scaled to 1 already.
+fn take_at<F: Field>(f: &F, factor: u8, q: usize, products: &[u8], row: &mut [u8])
+    requires same { length row.old ≡ length products.now }
+    requires list { q < length row.old }
+    requires factor { factor < 2 ^ F.bits_of f.now }
+    requires one { slice_index products.now q ≡ 1 }
+    requires products { All (λ x. x < 2 ^ F.bits_of f.now) products.now }
+    requires symbols { All (λ x. x < 2 ^ F.bits_of f.now) row.old }
+    ensures value { (j : ℕ) → j < length row.old → slice_index row.new j
+        ≡ taken (gf_mul (F.bits_of f.now) (F.modulus_of f.now)) factor q
+        (slice_index row.old) (slice_index products.now) j }
+    ensures symbols { All (λ x. x < 2 ^ F.bits_of f.now) row.new }
 {
-    if q == k {
-        pivot.fill(0);
-    } else {
-        pivot.copy_from_slice(lists.row(k));
-    }
-    let list = lists.row(q);
-    let factor = f.inv(list[lists.rows() as usize]);
-    add_scaled(f, pivot, factor, list);
+    f.bits();
+    let multiple = f.mul(factor, row[q]);
+    row[q] = 0;
+    add_scaled(f, row, multiple, products);
 }
 
-/// Adds to each list but list k its product times the pivot.
-fn clear_others<F: Field>(f: &F, lists: &mut Matrix, k: u32, pivot: &[u8], row: &mut [u8])
-    requires lists { AreLists (F.bits_of f.now) (length lists.old.rows) lists.old }
-    requires symbols { All (λ x. x < 2 ^ F.bits_of f.now) pivot.now }
-    requires room { length row.old ≡ length lists.old.rows + 1 }
-    requires width { length pivot.now ≡ length lists.old.rows + 1 }
-    ensures lists { AreLists (F.bits_of f.now) (length lists.old.rows) lists.new }
-    ensures pivot { (p : ℕ) → entry lists.new k p ≡ entry lists.old k p }
-    ensures others { (q p : ℕ) → q < length lists.old.rows → q ≢ k → p < length lists.old.rows + 1 →
-        entry lists.new q p ≡ bit_xor (entry lists.old q p)
-        (gf_mul (F.bits_of f.now) (F.modulus_of f.now) (entry lists.old q (length lists.old.rows))
-        (slice_index pivot.now p)) }
+// Takes list q at each position. Its product becomes 1.
+fn take_list<F: Field>(f: &F, q: usize, products: &mut [u8], symbols: &mut [u8])
+    requires few { length products.old ≤ 1024 }
+    requires fits { length symbols.old ≡ length products.old * length products.old }
+    requires list { q < length products.old }
+    requires seeing { slice_index products.old q ≢ 0 }
+    requires products { All (λ x. x < 2 ^ F.bits_of f.now) products.old }
+    requires symbols { All (λ x. x < 2 ^ F.bits_of f.now) symbols.old }
+    ensures taken { IsTaken (gf_mul (F.bits_of f.now) (F.modulus_of f.now)) (length products.old) q
+        products.old symbols.old symbols.new }
+    ensures symbols { All (λ x. x < 2 ^ F.bits_of f.now) symbols.new }
 {
-    let n = lists.rows();
-    for q in 0..n {
-        if q != k {
-            row.copy_from_slice(lists.row(q));
-            let product = row[n as usize];
-            add_scaled(f, row, product, pivot);
-            lists.set_row(q, row);
-        }
+    f.bits();
+    let n = products.len();
+    let factor = f.inv(products[q]);
+    products[q] = 1;
+    for p in 0..n {
+        take_at(f, factor, q, products, &mut symbols[p * n..p * n + n]);
     }
 }
 
-/// Whether the function with these values is new, where k members are known. If so list k becomes its dual list, and the
-/// other lists come to vanish on it.
+/// Whether the function with these values is new, where k members are known. If so list k of the order becomes its dual
+/// list, and the other lists come to vanish on it. The room is for the products.
 pub fn step<F: Field>(
     f: &F,
     values: &[u8],
-    k: u32,
-    lists: &mut Matrix,
-    pivot: &mut [u8],
-    row: &mut [u8],
+    k: usize,
+    symbols: &mut [u8],
+    order: &mut [u32],
+    used: &mut [bool],
+    products: &mut [u8],
 ) -> bool
     requires few { length values.now ≤ 1024 }
-    requires lists { AreLists (F.bits_of f.now) (length values.now) lists.old }
+    requires lists { AreLists (F.bits_of f.now) (length values.now) symbols.old order.old used.old }
     requires values { All (λ x. x < 2 ^ F.bits_of f.now) values.now }
-    requires pivot_room { length pivot.old ≡ length values.now + 1 }
-    requires row_room { length row.old ≡ length values.now + 1 }
-    ensures lists { AreLists (F.bits_of f.now) (length values.now) lists.new }
+    requires room { length products.old ≡ length values.now }
+    ensures lists { AreLists (F.bits_of f.now) (length values.now) symbols.new order.new used.new }
     ensures step { IsStep (2 ^ F.bits_of f.now) (gf_mul (F.bits_of f.now) (F.modulus_of f.now))
-        (length values.now) k values.now lists.old lists.new result }
+        (length values.now) k values.now symbols.old order.old symbols.new order.new result }
     ensures within { IsTrue result → k < length values.now }
 {
     f.bits();
-    multiply(f, values, lists);
-    match first_seeing(lists, k) {
+    multiply(f, values, symbols, used, products);
+    match first_seeing(products, order, k) {
         None => false,
-        Some(q) => {
-            pivot_list(f, lists, k, q, pivot);
-            lists.set_row(k, pivot);
-            clear_others(f, lists, k, pivot, row);
+        Some(place) => {
+            let q = order[place];
+            order[place] = order[k];
+            order[k] = q;
+            used[q as usize] = true;
+            take_list(f, q as usize, products, symbols);
             true
         }
     }

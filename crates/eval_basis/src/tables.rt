@@ -1,13 +1,11 @@
-//! The tables of a basis, from its members: labels, sums, leads, dual lists, and how many pairs each member has.
+//! The tables of a basis, from its members: labels, sums, leads, and how many pairs each member has.
 
 ghost use Rattle.std.specs.Prelude.{ℕ, ◌≡◌, ◌+◌, ◌*◌, ◌<◌, ◌≤◌, ◌^◌, ◌==◌, length, slice_index, count_by, All, IfOk};
-ghost use Rattle.gf_linear.specs.Matrix.{entry};
 ghost use Rattle.order_domain.specs.Values.{sum_or_count as sum_or_count_of, lead_at};
 ghost use Rattle.eval_basis.specs.Flat.{IsList, IsTable};
 ghost use Rattle.eval_basis.specs.Found.{AreTables};
 
 use gf_field::Field;
-use gf_linear::Matrix;
 use order_domain::OrderDomain;
 use std::alloc::{AllocError, Global};
 
@@ -15,7 +13,6 @@ use std::alloc::{AllocError, Global};
 #[derive(Drop)]
 pub struct Tables {
     pub labels: Vec<u32>,
-    pub duals: Vec<u8>,
     pub pair_counts: Vec<u32>,
     pub sums: Vec<u32>,
     pub leads: Vec<u8>,
@@ -106,20 +103,6 @@ fn leads_of<F: Field, D: OrderDomain>(
     Ok(leads)
 }
 
-/// The dual lists, row by row.
-#[tactic(auto, using(crate::proofs::Pushing::pushing))]
-fn duals_of(alloc: Global, lists: &Matrix) -> Result<Vec<u8>, AllocError>
-    requires { lists.now.cols ≡ length lists.now.rows + 1 }
-    ensures { IfOk result (λ v. IsTable (length lists.now.rows) (entry lists.now) v.items) }
-{
-    let n = lists.rows() as usize;
-    let mut duals = Vec::with_capacity(alloc, n * n)?;
-    for q in 0..lists.rows() {
-        duals.extend_from_slice(&lists.row(q)[..n])?;
-    }
-    Ok(duals)
-}
-
 /// The number of the member with each index; n for an index that is no member's.
 fn numbers_of(alloc: Global, count: u32, ranks: &[u32]) -> Result<Vec<u32>, AllocError>
     requires few { length ranks.now ≤ 1024 }
@@ -168,13 +151,12 @@ fn pair_counts_of(
     Ok(counts)
 }
 
-/// The tables of the members with these indices and dual lists.
+/// The tables of the members with these indices.
 pub fn tables_of<F: Field, D: OrderDomain>(
     alloc: Global,
     f: &F,
     dom: &D,
     ranks: &[u32],
-    lists: &Matrix,
 ) -> Result<Tables, AllocError>
     requires bits { F.bits_of f.now ≡ (D.domain dom.now).bits }
     requires few { length ranks.now ≤ 1024 }
@@ -182,14 +164,12 @@ pub fn tables_of<F: Field, D: OrderDomain>(
         slice_index ranks.now k < (D.domain dom.now).count }
     requires rising { (j k : ℕ) → j < k → k < length ranks.now →
         slice_index ranks.now j < slice_index ranks.now k }
-    requires lists { lists.now.cols ≡ length lists.now.rows + 1 }
     ensures { IfOk result (λ t. AreTables (D.domain dom.now) (F.modulus_of f.now) ranks.now
-        lists.now t.labels.items t.duals.items t.pair_counts.items t.sums.items t.leads.items) }
+        t.labels.items t.pair_counts.items t.sums.items t.leads.items) }
 {
     let sums = sums_of(alloc, dom, ranks)?;
     Ok(Tables {
         labels: labels_of(alloc, dom, ranks)?,
-        duals: duals_of(alloc, lists)?,
         pair_counts: pair_counts_of(alloc, dom.count(), ranks, &sums)?,
         leads: leads_of(alloc, f, dom, ranks)?,
         sums,

@@ -1,6 +1,5 @@
-use Rattle.std.proofs.Common.{ℕ, ◌≡◌, ◌<◌, ◌≤◌, length}
-use Rattle.gf_linear.specs.Matrix.{entry}
+use Rattle.std.proofs.Common.{ℕ, ◌≡◌, ◌<◌, ◌≤◌, slice_index}
 use Rattle.eval_basis.proofs.elimination.first_seeing.Given as goal
 
-abbrev pub invariant-loop-q : goal.invariant-loop-q
-invariant-loop-q l = (p : ℕ) → l.k ≤ p → p < l.q → entry l.lists p (length l.lists.rows) ≡ 0
+abbrev pub invariant-loop-i : goal.invariant-loop-i
+invariant-loop-i l = (t : ℕ) → l.k ≤ t → t < l.i → slice_index l.products (slice_index l.order t) ≡ 0

@@ -1,12 +1,31 @@
-use Rattle.std.proofs.Common.{arith, length}
+use Rattle.std.proofs.Common.{◌<◌, ◌*◌, ◌+◌, ◌-◌, ◌^◌, length, arith}
+use Rattle.std.proofs.lemmas.List.Elements.{All-set}
 use Rattle.gf_theory.specs.Field.{gf_mul}
-use Rattle.eval_basis.proofs.ListSteps.{lists_set, kept_more, multiplied_more}
+use Rattle.eval_basis.proofs.Stepping.{field_of}
+use Rattle.eval_basis.proofs.ListSteps.{multiplied_used, multiplied_unit}
 use Rattle.eval_basis.proofs.elimination.multiply.Goals as goal
+use Rattle.eval_basis.proofs.elimination.multiply.Goals.{then-used-p, else-used-p}
 
-pub loop-q-preserved : goal.loop-q-preserved
-loop-q-preserved g c =
-    record {
-      lists = lists_set (g.F.Field.bits_of c.args.f.now) (length c.args.values.now) c.loop-q.lists c.set.new.self c.loop-q.q (length c.args.values.now) c.dot-product.result c.loop-q.invariant.lists c.set.ensures c.loop-q-test.true (omega arith) c.dot-product.ensures.symbol;
-      kept = kept_more (length c.args.values.now) c.args.lists.now c.loop-q.lists c.set.new.self c.loop-q.q c.dot-product.result c.loop-q.invariant.kept c.set.ensures;
-      products = multiplied_more (gf_mul (g.F.Field.bits_of c.args.f.now) (g.F.Field.modulus_of c.args.f.now)) (g.F.Field.bits_of c.args.f.now) (length c.args.values.now) c.loop-q.q c.dot-product.result c.args.values.now c.row.result.now c.args.lists.now c.loop-q.lists c.set.new.self c.loop-q.invariant.lists c.loop-q.invariant.kept c.loop-q.invariant.products c.set.ensures c.loop-q-test.true c.row.ensures.row c.dot-product.ensures.value;
-    }
+pub loop-p-preserved : goal.loop-p-preserved
+loop-p-preserved g c =
+    let b = g.F.Field.bits_of c.args.f.now in
+    let m = g.F.Field.modulus_of c.args.f.now in
+    let n = length c.args.values.now in
+    let p = c.loop-p.p in
+    let values = c.args.values.now in
+    let symbols = c.args.symbols.now in
+    let here : p < length values = c.loop-p-test.true in
+    elim c.if-used-p.branch [
+      | then-used-p w ↦
+          rw w.products-is (record {
+            symbols = w.add_scaled.ensures.symbols;
+            so_far = multiplied_used (2 ^ b) (gf_mul b m) (field_of b m c.bits.ensures.field) n p (p * n + n - p * n) values symbols c.loop-p.products w.add_scaled.new.dst
+                (omega arith) c.loop-p.invariant.so_far (λ q l. w.add_scaled.ensures.value q (omega arith));
+          })
+      | else-used-p w ↦
+          rw w.products-is (record {
+            symbols = All-set (λ x. x < 2 ^ b) c.loop-p.products p w.add.result w.add.ensures.element c.loop-p.invariant.symbols;
+            so_far = multiplied_unit (2 ^ b) (gf_mul b m) (field_of b m c.bits.ensures.field) n p w.add.result values symbols c.loop-p.products
+                (omega arith) (c.requires.values p 0 here) (λ q l. c.requires.units p q here l w.if-used-p.false) w.add.ensures.sum c.loop-p.invariant.so_far;
+          })
+    ]

@@ -1,12 +1,12 @@
-use Rattle.std.proofs.Common.{length}
+use Rattle.std.proofs.Common.{ℕ, ◌≡◌, ◌<◌, ◌^◌, length, slice_index, All}
 use Rattle.gf_theory.specs.Field.{gf_mul}
-use Rattle.eval_basis.specs.Lists.{AreLists, AreKept}
-use Rattle.eval_basis.proofs.ListSteps.{AreMultiplied}
+use Rattle.linear_theory.specs.Linear.{combine}
+use Rattle.gf_linear.specs.Cells.{cell}
 use Rattle.eval_basis.proofs.elimination.multiply.Given as goal
 
-abbrev pub invariant-loop-q : goal.invariant-loop-q
-invariant-loop-q g l = record {
-  lists : AreLists (g.F.Field.bits_of l.f) (length l.values) l.lists;
-  kept : AreKept (length l.values) l.initial.lists l.lists;
-  products : AreMultiplied (gf_mul (g.F.Field.bits_of l.f) (g.F.Field.modulus_of l.f)) (length l.values) l.q l.values l.initial.lists l.lists;
+abbrev pub invariant-loop-p : goal.invariant-loop-p
+invariant-loop-p g l = record {
+  symbols : All (λ x. x < 2 ^ g.F.Field.bits_of l.f) l.products;
+  so_far : (q : ℕ) → q < length l.values →
+      slice_index l.products q ≡ combine (gf_mul (g.F.Field.bits_of l.f) (g.F.Field.modulus_of l.f)) l.p (slice_index l.values) (cell l.symbols (length l.values)) q;
 }

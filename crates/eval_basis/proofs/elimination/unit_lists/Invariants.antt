@@ -1,9 +1,16 @@
-use Rattle.eval_basis.specs.Lists.{AreLists}
-use Rattle.eval_basis.proofs.ListSteps.{AreUnits}
+use Rattle.std.proofs.Common.{◌<◌, ◌^◌, All}
+use Rattle.field_theory.specs.Sums.{unit}
+use Rattle.eval_basis.proofs.Pushing.{IsPushed}
 use Rattle.eval_basis.proofs.elimination.unit_lists.Given as goal
+
+abbrev pub invariant-loop-p : goal.invariant-loop-p
+invariant-loop-p g l = record {
+  pushed : IsPushed l.n unit l.symbols.items l.p 0;
+  symbols : All (λ x. x < 2 ^ g.F.Field.bits_of l.f) l.symbols.items;
+}
 
 abbrev pub invariant-loop-q : goal.invariant-loop-q
 invariant-loop-q g l = record {
-  lists : AreLists (g.F.Field.bits_of l.f) l.n l.lists;
-  units : AreUnits l.n l.q l.lists;
+  pushed : IsPushed l.n unit l.symbols.items l.p l.q;
+  symbols : All (λ x. x < 2 ^ g.F.Field.bits_of l.f) l.symbols.items;
 }
