@@ -147,25 +147,25 @@ module _ (size n : ℕ) (entries : List Entry) (c : Entries) (cols : AreColumns 
     only_is k i l f x = label_same i (slice_index indices k) x.below f (x.is ∙ sym (found_is k l f).is)
 
     module _ (rule : CheckRule) where
-      pub label_from : (k : ℕ) → k < n → IsLabelBy functions rule c.labels.items c.pairs.items c.marks.items indices k → IsGoodLabel d rule entries k
+      pub label_from : (k : ℕ) → k < n → IsLabelBy d functions rule c.labels.items c.pairs.items c.marks.items indices k → IsGoodLabel d rule entries k
       label_from k l h =
           let f : slice_index indices k < d.count = omega (arith, h.found, are.labels_are.long) in
-          let p : (entry_at entries k).pairs ≡ slice_index functions.pairs.items (slice_index indices k) = sym (pairs_is k l) ∙ h.pairs_are in
+          let p : (entry_at entries k).pairs ≡ pairs d.count (sum_or_count d) (slice_index indices k) = sym (pairs_is k l) ∙ h.pairs_are in
           let q : slice_index functions.labels.items (slice_index indices k) ≡ (entry_at entries k).label = (index_at k l).found (omega (arith, h.found)) ∙ label_is k l in
           record {
             index = slice_index indices k;
             is_index = found_is k l f;
             above = λ j e. omega (arith, label_is k l, label_is j (omega arith), h.above j e);
-            pairs_are = p ∙ are.pairs_are.entries (slice_index indices k) f;
-            mark_is = sym (mark_is k l) ∙ h.mark_is ∙ ap (λ (x : ℕ). rule_checks rule x (slice_index functions.pairs.items (slice_index indices k))) q ∙ ap (rule_checks rule (entry_at entries k).label) (sym p);
+            pairs_are = p;
+            mark_is = sym (mark_is k l) ∙ h.mark_is ∙ ap (λ (x : ℕ). rule_checks rule x (pairs d.count (sum_or_count d) (slice_index indices k))) q ∙ ap (rule_checks rule (entry_at entries k).label) (sym p);
           }
 
-      pub label_to : (k : ℕ) → k < n → IsGoodLabel d rule entries k → IsLabelBy functions rule c.labels.items c.pairs.items c.marks.items indices k
+      pub label_to : (k : ℕ) → k < n → IsGoodLabel d rule entries k → IsLabelBy d functions rule c.labels.items c.pairs.items c.marks.items indices k
       label_to k l g =
           let f : slice_index indices k < d.count = found_if k g.index l g.is_index in
           let same : g.index ≡ slice_index indices k = only_is k g.index l f g.is_index in
-          let p : slice_index c.pairs.items k ≡ slice_index functions.pairs.items (slice_index indices k) =
-          pairs_is k l ∙ g.pairs_are ∙ ap (pairs d.count (sum_or_count d)) same ∙ sym (are.pairs_are.entries (slice_index indices k) f) in
+          let p : slice_index c.pairs.items k ≡ pairs d.count (sum_or_count d) (slice_index indices k) =
+          pairs_is k l ∙ g.pairs_are ∙ ap (pairs d.count (sum_or_count d)) same in
           let q : slice_index functions.labels.items (slice_index indices k) ≡ (entry_at entries k).label = (index_at k l).found (omega (arith, are.labels_are.long)) ∙ label_is k l in
           record {
             found = omega (arith, are.labels_are.long);
@@ -174,7 +174,7 @@ module _ (size n : ℕ) (entries : List Entry) (c : Entries) (cols : AreColumns 
             mark_is = mark_is k l ∙ g.mark_is ∙ ap (λ (x : ℕ). rule_checks rule x (entry_at entries k).pairs) (sym q) ∙ ap (rule_checks rule (slice_index functions.labels.items (slice_index indices k))) (sym (pairs_is k l) ∙ p);
           }
 
-      pub indices_found : AreGood n (IsLabelBy functions rule c.labels.items c.pairs.items c.marks.items indices) → (k : ℕ) → k < n → slice_index indices k < d.count
+      pub indices_found : AreGood n (IsLabelBy d functions rule c.labels.items c.pairs.items c.marks.items indices) → (k : ℕ) → k < n → slice_index indices k < d.count
       indices_found good k l = omega (arith, (good.each k l).found, are.labels_are.long)
 
     -- ---- dual lists

@@ -4,6 +4,7 @@ pub mod Splits
 pub mod Fields
 pub mod Lines
 pub mod Counting
+pub mod Staircase
 pub mod Conversions
 pub mod Verdicts
 pub mod Tables

@@ -40,16 +40,16 @@ module _ (d : Domain) (modulus : ℕ) (points : List Point) (rule : CheckRule) (
   pub lists_small : (bits : ℕ) → bits ≡ d.bits → All (λ x. x < 2 ^ bits) cols.duals.items
   lists_small bits e = subst (λ (b : ℕ). All (λ x. x < 2 ^ b) cols.duals.items) (sym e) (duals_small (2 ^ d.bits) (length points) r.entries cols r.are_columns r.lines.forms r.n_entries)
 
-  pub label_refused : (k : ℕ) → IsFirstBad (length indices) (IsLabelBy functions rule cols.labels.items cols.pairs.items cols.marks.items indices) k → IsRefused d modulus points rule text (k + 3)
+  pub label_refused : (k : ℕ) → IsFirstBad (length indices) (IsLabelBy d functions rule cols.labels.items cols.pairs.items cols.marks.items indices) k → IsRefused d modulus points rule text (k + 3)
   label_refused k h = bad_label checked bound r.entries k said
       (first_bad (length points) k _ (IsGoodLabel d rule r.entries)
       (label_from (2 ^ d.bits) (length points) r.entries cols r.are_columns r.lines.forms r.n_entries d functions are indices at rule)
       (label_to (2 ^ d.bits) (length points) r.entries cols r.are_columns r.lines.forms r.n_entries d functions are indices at rule)
-      (subst (λ (n : ℕ). IsFirstBad n (IsLabelBy functions rule cols.labels.items cols.pairs.items cols.marks.items indices) k) n_is h))
+      (subst (λ (n : ℕ). IsFirstBad n (IsLabelBy d functions rule cols.labels.items cols.pairs.items cols.marks.items indices) k) n_is h))
 
-  module _ (good : AreGood (length indices) (IsLabelBy functions rule cols.labels.items cols.pairs.items cols.marks.items indices)) where
-    good_here : AreGood (length points) (IsLabelBy functions rule cols.labels.items cols.pairs.items cols.marks.items indices)
-    good_here = subst (λ (n : ℕ). AreGood n (IsLabelBy functions rule cols.labels.items cols.pairs.items cols.marks.items indices)) n_is good
+  module _ (good : AreGood (length indices) (IsLabelBy d functions rule cols.labels.items cols.pairs.items cols.marks.items indices)) where
+    good_here : AreGood (length points) (IsLabelBy d functions rule cols.labels.items cols.pairs.items cols.marks.items indices)
+    good_here = subst (λ (n : ℕ). AreGood n (IsLabelBy d functions rule cols.labels.items cols.pairs.items cols.marks.items indices)) n_is good
 
     labels_good : AreGood (length points) (IsGoodLabel d rule r.entries)
     labels_good = all_good (length points) _ (IsGoodLabel d rule r.entries) (label_from (2 ^ d.bits) (length points) r.entries cols r.are_columns r.lines.forms r.n_entries d functions are indices at rule) good_here

@@ -1,5 +1,5 @@
 -- IsGrid          a flat list holds rows of n entries, row by row
--- AreFunctions    labels and pairs of the functions of a domain
+-- AreFunctions    the labels of the functions of a domain
 -- IsIndexOf       the place of a label in a list of labels, or the list's length where it is not there
 -- AreIndices      the places of several labels
 -- IsLabelBy       the check of the label on line k, by these lists
@@ -9,13 +9,13 @@
 -- IsDualBy        the check of the dual list on line k, by these lists
 -- IsLeastFree     the least pairs of a line with no mark, if there is one
 -- IsHeadBy        the check of the second line, by these lists
--- AreCounted      how often each index was the sum of a pair before pair (i, j)
-use Rattle.std.specs.Prelude.{◌≡◌, ◌≢◌, ℕ, suc, ◌+◌, ◌*◌, ◌^◌, ◌<◌, ◌≤◌, ◌==◌, Bool, false, List, length, count_by, slice_index}
+-- AreBeyond       the sums of a function with those from a place on are after function r, or there are none
+-- AreRowsBeyond   so is it for all functions from one on
+use Rattle.std.specs.Prelude.{◌≡◌, ◌≢◌, ℕ, suc, ◌+◌, ◌*◌, ◌^◌, ◌<◌, ◌≤◌, Bool, false, List, length, count_by, slice_index}
 use Rattle.std.specs.List.{slice_range}
-use Rattle.field_theory.specs.Sums.{total, one_if}
 use Rattle.gf_theory.specs.Field.{gf_mul}
 use Rattle.linear_theory.specs.Linear.{dot}
-use Rattle.counting_theory.specs.Votes.{pairs}
+use Rattle.counting_theory.specs.Votes.{pairs as pairs_of}
 use Rattle.order_theory.specs.Codes.{marked}
 use Rattle.order_domain.specs.Domain.{Domain, IsOrderDomain}
 use Rattle.order_domain.specs.Values.{sum_or_count}
@@ -33,7 +33,6 @@ pub record AreFunctions (d : Domain) (functions : Functions) : Type 0 where
   pub few : d.count < 2 ^ 32
   pub labels_fit : (i : ℕ) → i < d.count → d.label i < 2 ^ 32
   pub labels_are : IsList d.count d.label functions.labels.items
-  pub pairs_are : IsList d.count (pairs d.count (sum_or_count d)) functions.pairs.items
 
 pub record IsIndexOf (labels : List ℕ) (label i : ℕ) : Type 0 where
   pub within : i ≤ length labels
@@ -44,11 +43,11 @@ pub record AreIndices (labels said indices : List ℕ) : Type 0 where
   pub long : length indices ≡ length said
   pub each : (k : ℕ) → k < length said → IsIndexOf labels (slice_index said k) (slice_index indices k)
 
-pub record IsLabelBy (functions : Functions) (rule : CheckRule) (labels pairs : List ℕ) (marks : List Bool) (indices : List ℕ) (k : ℕ) : Type 0 where
+pub record IsLabelBy (d : Domain) (functions : Functions) (rule : CheckRule) (labels pairs : List ℕ) (marks : List Bool) (indices : List ℕ) (k : ℕ) : Type 0 where
   pub found : slice_index indices k < length functions.labels.items
   pub above : (j : ℕ) → k ≡ suc j → slice_index labels j < slice_index labels k
-  pub pairs_are : slice_index pairs k ≡ slice_index functions.pairs.items (slice_index indices k)
-  pub mark_is : marked marks k ≡ rule_checks rule (slice_index functions.labels.items (slice_index indices k)) (slice_index functions.pairs.items (slice_index indices k))
+  pub pairs_are : slice_index pairs k ≡ pairs_of d.count (sum_or_count d) (slice_index indices k)
+  pub mark_is : marked marks k ≡ rule_checks rule (slice_index functions.labels.items (slice_index indices k)) (pairs_of d.count (sum_or_count d) (slice_index indices k))
 
 abbrev pub product_of : (bits modulus n : ℕ) → List ℕ → List ℕ → ℕ → ℕ → ℕ
 product_of bits modulus n values duals k i = dot (gf_mul bits modulus) n (slice_index (slice_range duals (k * n) (k * n + n))) (slice_index (slice_range values (i * n) (i * n + n)))
@@ -72,7 +71,9 @@ pub record IsHeadBy (checked bound : ℕ) (pairs : List ℕ) (marks : List Bool)
   pub checked_are : checked ≡ count_by (λ (m : Bool). m) marks
   pub least : IsLeastFree (length marks) pairs marks bound
 
-pub record AreCounted (d : Domain) (i j : ℕ) (counts : List ℕ) : Type 0 where
-  pub long : length counts ≡ d.count
-  pub counts_are : (r : ℕ) → r < d.count →
-      slice_index counts r ≡ total i (λ u. total d.count (λ v. one_if (sum_or_count d u v == r))) + total j (λ v. one_if (sum_or_count d i v == r))
+-- the sums of function i with function `end` and those after it are after function r, or there are none
+pub record AreBeyond (d : Domain) (r i end : ℕ) : Type 0 where
+  pub each : (v : ℕ) → end ≤ v → v < d.count → r < sum_or_count d i v
+
+pub record AreRowsBeyond (d : Domain) (r i end : ℕ) : Type 0 where
+  pub each : (u v : ℕ) → i ≤ u → u < d.count → end ≤ v → v < d.count → r < sum_or_count d u v

@@ -1,14 +1,16 @@
 //! The checks of what a table says, by lists of plain numbers.
 
 ghost use Rattle.std.specs.Prelude.{ℕ, ◌≡◌, ◌+◌, ◌*◌, ◌^◌, ◌<◌, ◌≤◌, suc, Bool, All, length, slice_index, IfOk, MatchBool, MatchOption};
-ghost use Rattle.order_bound.specs.Checking.{IsIndexOf, AreIndices, IsLabelBy, product_of, VanishesBefore, VanishesLater, IsDualBy, IsLeastFree, IsHeadBy};
+ghost use Rattle.order_bound.specs.Checking.{AreFunctions, IsIndexOf, AreIndices, IsLabelBy, product_of, VanishesBefore, VanishesLater, IsDualBy, IsLeastFree, IsHeadBy};
 ghost use Rattle.order_bound.specs.TableChecks.{AreGood, IsFirstBad};
 
 use crate::functions::Functions;
+use crate::pairs::pairs_of;
 use crate::reader::{Entries, Said};
 use eval_basis::CheckRule;
 use gf_field::Field;
 use gf_linear::dot;
+use order_domain::OrderDomain;
 use std::alloc::{AllocError, Global};
 
 /// The place of a label in a list of labels, or the list's length where it is not there.
@@ -50,7 +52,8 @@ fn rises(labels: &[u64], k: usize) -> bool
 }
 
 /// Whether the label on line k is that of a function, with its pairs and the mark of the rule.
-fn is_good_label(
+fn is_good_label<D: OrderDomain>(
+    dom: &D,
     functions: &Functions,
     rule: CheckRule,
     entries: &Entries,
@@ -61,11 +64,11 @@ fn is_good_label(
     requires labels { length entries.now.labels.items ≡ length indices.now }
     requires pairs { length entries.now.pairs.items ≡ length indices.now }
     requires marks { length entries.now.marks.items ≡ length indices.now }
-    requires functions { length functions.now.pairs.items ≡ length functions.now.labels.items }
+    requires functions { AreFunctions (D.domain dom.now) functions.now }
     ensures { MatchBool result
-        (IsLabelBy functions.now rule entries.now.labels.items entries.now.pairs.items
+        (IsLabelBy (D.domain dom.now) functions.now rule entries.now.labels.items entries.now.pairs.items
         entries.now.marks.items indices.now k)
-        (IsLabelBy functions.now rule entries.now.labels.items entries.now.pairs.items
+        (IsLabelBy (D.domain dom.now) functions.now rule entries.now.labels.items entries.now.pairs.items
         entries.now.marks.items indices.now k → ⊥) }
 {
     let index = indices[k] as usize;
@@ -75,14 +78,16 @@ fn is_good_label(
     if !rises(&entries.labels, k) {
         return false;
     }
-    if entries.pairs[k] != u64::from(functions.pairs[index]) {
+    let pairs = pairs_of(dom, index as u32);
+    if entries.pairs[k] != u64::from(pairs) {
         return false;
     }
-    entries.marks[k] == rule.checks(functions.labels[index], functions.pairs[index])
+    entries.marks[k] == rule.checks(functions.labels[index], pairs)
 }
 
 /// The first line whose label is not as it should be.
-pub fn first_bad_label(
+pub fn first_bad_label<D: OrderDomain>(
+    dom: &D,
     functions: &Functions,
     rule: CheckRule,
     entries: &Entries,
@@ -92,15 +97,15 @@ pub fn first_bad_label(
     requires labels { length entries.now.labels.items ≡ length indices.now }
     requires pairs { length entries.now.pairs.items ≡ length indices.now }
     requires marks { length entries.now.marks.items ≡ length indices.now }
-    requires functions { length functions.now.pairs.items ≡ length functions.now.labels.items }
+    requires functions { AreFunctions (D.domain dom.now) functions.now }
     ensures { MatchOption result
-        (AreGood (length indices.now) (IsLabelBy functions.now rule entries.now.labels.items
+        (AreGood (length indices.now) (IsLabelBy (D.domain dom.now) functions.now rule entries.now.labels.items
         entries.now.pairs.items entries.now.marks.items indices.now))
-        (IsFirstBad (length indices.now) (IsLabelBy functions.now rule entries.now.labels.items
+        (IsFirstBad (length indices.now) (IsLabelBy (D.domain dom.now) functions.now rule entries.now.labels.items
         entries.now.pairs.items entries.now.marks.items indices.now)) }
 {
     for k in 0..indices.len() {
-        if !is_good_label(functions, rule, entries, indices, k) {
+        if !is_good_label(dom, functions, rule, entries, indices, k) {
             return Some(k as u32);
         }
     }

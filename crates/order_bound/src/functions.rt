@@ -1,21 +1,19 @@
 //! What a domain says of its functions.
 
 ghost use Rattle.std.specs.Prelude.{ℕ, ◌≡◌, ◌+◌, ◌^◌, ◌<◌, ◌≤◌, All, length, IfOk};
-ghost use Rattle.counting_theory.specs.Votes.{pairs as pairs_of};
 ghost use Rattle.order_domain.specs.Domain.{ArePoints, IsOrderDomain};
-ghost use Rattle.order_domain.specs.Values.{value_at, sum_or_count};
+ghost use Rattle.order_domain.specs.Values.{value_at};
 ghost use Rattle.eval_basis.specs.Flat.{IsList};
-ghost use Rattle.order_bound.specs.Checking.{IsGrid, AreFunctions, AreCounted};
+ghost use Rattle.order_bound.specs.Checking.{IsGrid, AreFunctions};
 
 use gf_field::Field;
 use order_domain::{OrderDomain, Point};
 use std::alloc::{AllocError, Global};
 
-/// The label of each function of a domain, and how many pairs of functions have it as their sum.
+/// The label of each function of a domain.
 #[derive(Drop)]
 pub struct Functions {
     pub labels: Vec<u32>,
-    pub pairs: Vec<u32>,
 }
 
 /// The functions of a domain.
@@ -25,8 +23,7 @@ pub fn functions_of<D: OrderDomain>(alloc: Global, dom: &D) -> Result<Functions,
     dom.bits();
     dom.count();
     let labels = labels_of(alloc, dom)?;
-    let pairs = pair_counts_of(alloc, dom)?;
-    Ok(Functions { labels, pairs })
+    Ok(Functions { labels })
 }
 
 #[tactic(auto, using(eval_basis::proofs::Pushing::pushing))]
@@ -41,31 +38,6 @@ fn labels_of<D: OrderDomain>(alloc: Global, dom: &D) -> Result<Vec<u32>, AllocEr
         labels.push(dom.label(i))?;
     }
     Ok(labels)
-}
-
-fn pair_counts_of<D: OrderDomain>(alloc: Global, dom: &D) -> Result<Vec<u32>, AllocError>
-    ensures { IfOk result (λ v. IsList (D.domain dom.now).count
-        (pairs_of (D.domain dom.now).count (sum_or_count (D.domain dom.now))) v.items) }
-{
-    let mut counts = vec![in alloc; 0u32; dom.count() as usize]?;
-    for i in 0..dom.count() {
-        count_row(dom, i, &mut counts);
-    }
-    Ok(counts)
-}
-
-/// Counts the sums of function i with each function.
-fn count_row<D: OrderDomain>(dom: &D, i: u32, counts: &mut [u32])
-    requires index { i < (D.domain dom.now).count }
-    requires counted { AreCounted (D.domain dom.now) i 0 counts.old }
-    ensures { AreCounted (D.domain dom.now) (i + 1) 0 counts.new }
-{
-    dom.bits();
-    for j in 0..dom.count() {
-        if let Some(sum) = dom.sum(i, j) {
-            counts[sum as usize] += 1;
-        }
-    }
 }
 
 /// The values of all functions at the points, row by row.

@@ -7,6 +7,7 @@
 mod checks;
 mod distance;
 mod functions;
+mod pairs;
 mod reader;
 mod table;
 mod writer;

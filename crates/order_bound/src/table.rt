@@ -78,7 +78,7 @@ fn bound_of<F: Field, D: OrderDomain>(
         Err(stop) => return Err(stop),
     };
     let indices = indices_of(alloc, &functions.labels, &said.entries.labels)?;
-    if let Some(k) = first_bad_label(functions, rule, &said.entries, &indices) {
+    if let Some(k) = first_bad_label(dom, functions, rule, &said.entries, &indices) {
         return Err(Stop::Line(k + 3));
     }
     let values = values_of(alloc, f, dom, points)?;

@@ -13,7 +13,7 @@ pub returns-in-Some : goal.returns-in-Some
 returns-in-Some g c =
     label_refused (g.D.OrderDomain.domain c.args.dom.now) (g.F.Field.modulus_of c.args.f.now) c.args.points.now c.args.rule c.args.text.now c.symbol_count.result c.in-Ok.said.checked c.in-Ok.said.bound c.in-Ok.said.entries c.in-Ok.ensures (c.symbol_count.ensures.count ∙ ap (λ (b : ℕ). 2 ^ b) c.requires.bits)
     c.args.functions.now c.requires.functions c.in_ok-indices.indices.items (subst (λ (z : List ℕ). AreIndices z c.in-Ok.said.entries.labels.items c.in_ok-indices.indices.items) c.deref.ensures.value (subst (λ (z : List ℕ). AreIndices c.deref.result.now z c.in_ok-indices.indices.items) c.deref-2.ensures.value c.in_ok-indices.ensures))
-    c.in-Some.k (subst (λ (z : List ℕ). IsFirstBad (length z) (IsLabelBy c.args.functions.now c.args.rule c.in-Ok.said.entries.labels.items c.in-Ok.said.entries.pairs.items c.in-Ok.said.entries.marks.items z) c.in-Some.k) c.deref-3.ensures.value c.in-Some.ensures)
+    c.in-Some.k (subst (λ (z : List ℕ). IsFirstBad (length z) (IsLabelBy (g.D.OrderDomain.domain c.args.dom.now) c.args.functions.now c.args.rule c.in-Ok.said.entries.labels.items c.in-Ok.said.entries.pairs.items c.in-Ok.said.entries.marks.items z) c.in-Some.k) c.deref-3.ensures.value c.in-Some.ensures)
 
 pub first_bad_dual-requires-clause-rows : goal.first_bad_dual-requires-clause-rows
 first_bad_dual-requires-clause-rows g c =
@@ -21,7 +21,7 @@ first_bad_dual-requires-clause-rows g c =
     (subst (λ (z : List ℕ). (j : ℕ) → j < length c.in_ok-indices.indices.items → slice_index c.in_ok-indices.indices.items j * length c.in_ok-indices.indices.items + length c.in_ok-indices.indices.items ≤ length z) (sym c.deref-4.ensures.value)
     (rows_within (g.D.OrderDomain.domain c.args.dom.now) (g.F.Field.modulus_of c.args.f.now) c.args.points.now c.args.rule c.args.text.now c.symbol_count.result c.in-Ok.said.checked c.in-Ok.said.bound c.in-Ok.said.entries c.in-Ok.ensures (c.symbol_count.ensures.count ∙ ap (λ (b : ℕ). 2 ^ b) c.requires.bits)
     c.args.functions.now c.requires.functions c.in_ok-indices.indices.items (subst (λ (z : List ℕ). AreIndices z c.in-Ok.said.entries.labels.items c.in_ok-indices.indices.items) c.deref.ensures.value (subst (λ (z : List ℕ). AreIndices c.deref.result.now z c.in_ok-indices.indices.items) c.deref-2.ensures.value c.in_ok-indices.ensures))
-    (subst (λ (z : List ℕ). AreGood (length z) (IsLabelBy c.args.functions.now c.args.rule c.in-Ok.said.entries.labels.items c.in-Ok.said.entries.pairs.items c.in-Ok.said.entries.marks.items z)) c.deref-3.ensures.value c.in_default.ensures) (g.F.Field.bits_of c.args.f.now) c.requires.bits c.in_ok-values.values.items c.in_ok-values.ensures.values))
+    (subst (λ (z : List ℕ). AreGood (length z) (IsLabelBy (g.D.OrderDomain.domain c.args.dom.now) c.args.functions.now c.args.rule c.in-Ok.said.entries.labels.items c.in-Ok.said.entries.pairs.items c.in-Ok.said.entries.marks.items z)) c.deref-3.ensures.value c.in_default.ensures) (g.F.Field.bits_of c.args.f.now) c.requires.bits c.in_ok-values.values.items c.in_ok-values.ensures.values))
 
 pub first_bad_dual-requires-clause-lists : goal.first_bad_dual-requires-clause-lists
 first_bad_dual-requires-clause-lists g c =
@@ -41,7 +41,7 @@ pub returns-in-Some-first_bad_dual : goal.returns-in-Some-first_bad_dual
 returns-in-Some-first_bad_dual g c =
     dual_refused (g.D.OrderDomain.domain c.args.dom.now) (g.F.Field.modulus_of c.args.f.now) c.args.points.now c.args.rule c.args.text.now c.symbol_count.result c.in-Ok.said.checked c.in-Ok.said.bound c.in-Ok.said.entries c.in-Ok.ensures (c.symbol_count.ensures.count ∙ ap (λ (b : ℕ). 2 ^ b) c.requires.bits)
     c.args.functions.now c.requires.functions c.in_ok-indices.indices.items (subst (λ (z : List ℕ). AreIndices z c.in-Ok.said.entries.labels.items c.in_ok-indices.indices.items) c.deref.ensures.value (subst (λ (z : List ℕ). AreIndices c.deref.result.now z c.in_ok-indices.indices.items) c.deref-2.ensures.value c.in_ok-indices.ensures))
-    (subst (λ (z : List ℕ). AreGood (length z) (IsLabelBy c.args.functions.now c.args.rule c.in-Ok.said.entries.labels.items c.in-Ok.said.entries.pairs.items c.in-Ok.said.entries.marks.items z)) c.deref-3.ensures.value c.in_default.ensures) (g.F.Field.bits_of c.args.f.now) c.requires.bits c.in_ok-values.values.items c.in_ok-values.ensures.values c.in-Some-first_bad_dual.k
+    (subst (λ (z : List ℕ). AreGood (length z) (IsLabelBy (g.D.OrderDomain.domain c.args.dom.now) c.args.functions.now c.args.rule c.in-Ok.said.entries.labels.items c.in-Ok.said.entries.pairs.items c.in-Ok.said.entries.marks.items z)) c.deref-3.ensures.value c.in_default.ensures) (g.F.Field.bits_of c.args.f.now) c.requires.bits c.in_ok-values.values.items c.in_ok-values.ensures.values c.in-Some-first_bad_dual.k
     (subst (λ (z : List ℕ). IsFirstBad (length z) (IsDualBy (g.F.Field.bits_of c.args.f.now) (g.F.Field.modulus_of c.args.f.now) (length z) c.in_ok-values.values.items c.in-Ok.said.entries.duals.items z) c.in-Some-first_bad_dual.k) c.deref-6.ensures.value
     (subst (λ (z : List ℕ). IsFirstBad (length c.deref-6.result.now) (IsDualBy (g.F.Field.bits_of c.args.f.now) (g.F.Field.modulus_of c.args.f.now) (length c.deref-6.result.now) c.in_ok-values.values.items z c.deref-6.result.now) c.in-Some-first_bad_dual.k) c.deref-5.ensures.value
     (subst (λ (z : List ℕ). IsFirstBad (length c.deref-6.result.now) (IsDualBy (g.F.Field.bits_of c.args.f.now) (g.F.Field.modulus_of c.args.f.now) (length c.deref-6.result.now) z c.deref-5.result.now c.deref-6.result.now) c.in-Some-first_bad_dual.k) c.deref-4.ensures.value c.in-Some-first_bad_dual.ensures)))
@@ -50,7 +50,7 @@ pub returns-then-not-is_good_head : goal.returns-then-not-is_good_head
 returns-then-not-is_good_head g c =
     head_refused (g.D.OrderDomain.domain c.args.dom.now) (g.F.Field.modulus_of c.args.f.now) c.args.points.now c.args.rule c.args.text.now c.symbol_count.result c.in-Ok.said.checked c.in-Ok.said.bound c.in-Ok.said.entries c.in-Ok.ensures (c.symbol_count.ensures.count ∙ ap (λ (b : ℕ). 2 ^ b) c.requires.bits)
     c.args.functions.now c.requires.functions c.in_ok-indices.indices.items (subst (λ (z : List ℕ). AreIndices z c.in-Ok.said.entries.labels.items c.in_ok-indices.indices.items) c.deref.ensures.value (subst (λ (z : List ℕ). AreIndices c.deref.result.now z c.in_ok-indices.indices.items) c.deref-2.ensures.value c.in_ok-indices.ensures))
-    (subst (λ (z : List ℕ). AreGood (length z) (IsLabelBy c.args.functions.now c.args.rule c.in-Ok.said.entries.labels.items c.in-Ok.said.entries.pairs.items c.in-Ok.said.entries.marks.items z)) c.deref-3.ensures.value c.in_default.ensures) (g.F.Field.bits_of c.args.f.now) c.requires.bits c.in_ok-values.values.items c.in_ok-values.ensures.values
+    (subst (λ (z : List ℕ). AreGood (length z) (IsLabelBy (g.D.OrderDomain.domain c.args.dom.now) c.args.functions.now c.args.rule c.in-Ok.said.entries.labels.items c.in-Ok.said.entries.pairs.items c.in-Ok.said.entries.marks.items z)) c.deref-3.ensures.value c.in_default.ensures) (g.F.Field.bits_of c.args.f.now) c.requires.bits c.in_ok-values.values.items c.in_ok-values.ensures.values
     (subst (λ (z : List ℕ). AreGood (length z) (IsDualBy (g.F.Field.bits_of c.args.f.now) (g.F.Field.modulus_of c.args.f.now) (length z) c.in_ok-values.values.items c.in-Ok.said.entries.duals.items z)) c.deref-6.ensures.value
     (subst (λ (z : List ℕ). AreGood (length c.deref-6.result.now) (IsDualBy (g.F.Field.bits_of c.args.f.now) (g.F.Field.modulus_of c.args.f.now) (length c.deref-6.result.now) c.in_ok-values.values.items z c.deref-6.result.now)) c.deref-5.ensures.value
     (subst (λ (z : List ℕ). AreGood (length c.deref-6.result.now) (IsDualBy (g.F.Field.bits_of c.args.f.now) (g.F.Field.modulus_of c.args.f.now) (length c.deref-6.result.now) z c.deref-5.result.now c.deref-6.result.now)) c.deref-4.ensures.value c.in_default-first_bad_dual.ensures))) c.if-not-is_good_head.ensures
@@ -61,14 +61,14 @@ overflow_cast-result g c =
       arith,
       bound_fits (g.D.OrderDomain.domain c.args.dom.now) (g.F.Field.modulus_of c.args.f.now) c.args.points.now c.args.rule c.args.text.now c.symbol_count.result c.in-Ok.said.checked c.in-Ok.said.bound c.in-Ok.said.entries c.in-Ok.ensures (c.symbol_count.ensures.count ∙ ap (λ (b : ℕ). 2 ^ b) c.requires.bits)
           c.args.functions.now c.requires.functions c.in_ok-indices.indices.items (subst (λ (z : List ℕ). AreIndices z c.in-Ok.said.entries.labels.items c.in_ok-indices.indices.items) c.deref.ensures.value (subst (λ (z : List ℕ). AreIndices c.deref.result.now z c.in_ok-indices.indices.items) c.deref-2.ensures.value c.in_ok-indices.ensures))
-          (subst (λ (z : List ℕ). AreGood (length z) (IsLabelBy c.args.functions.now c.args.rule c.in-Ok.said.entries.labels.items c.in-Ok.said.entries.pairs.items c.in-Ok.said.entries.marks.items z)) c.deref-3.ensures.value c.in_default.ensures) c.if-not-is_good_head.ensures,
+          (subst (λ (z : List ℕ). AreGood (length z) (IsLabelBy (g.D.OrderDomain.domain c.args.dom.now) c.args.functions.now c.args.rule c.in-Ok.said.entries.labels.items c.in-Ok.said.entries.pairs.items c.in-Ok.said.entries.marks.items z)) c.deref-3.ensures.value c.in_default.ensures) c.if-not-is_good_head.ensures,
     )
 
 pub returns : goal.returns
 returns g c =
     text_accepted (g.D.OrderDomain.domain c.args.dom.now) (g.F.Field.modulus_of c.args.f.now) c.args.points.now c.args.rule c.args.text.now c.symbol_count.result c.in-Ok.said.checked c.in-Ok.said.bound c.in-Ok.said.entries c.in-Ok.ensures (c.symbol_count.ensures.count ∙ ap (λ (b : ℕ). 2 ^ b) c.requires.bits)
     c.args.functions.now c.requires.functions c.in_ok-indices.indices.items (subst (λ (z : List ℕ). AreIndices z c.in-Ok.said.entries.labels.items c.in_ok-indices.indices.items) c.deref.ensures.value (subst (λ (z : List ℕ). AreIndices c.deref.result.now z c.in_ok-indices.indices.items) c.deref-2.ensures.value c.in_ok-indices.ensures))
-    (subst (λ (z : List ℕ). AreGood (length z) (IsLabelBy c.args.functions.now c.args.rule c.in-Ok.said.entries.labels.items c.in-Ok.said.entries.pairs.items c.in-Ok.said.entries.marks.items z)) c.deref-3.ensures.value c.in_default.ensures) (g.F.Field.bits_of c.args.f.now) c.requires.bits c.in_ok-values.values.items c.in_ok-values.ensures.values
+    (subst (λ (z : List ℕ). AreGood (length z) (IsLabelBy (g.D.OrderDomain.domain c.args.dom.now) c.args.functions.now c.args.rule c.in-Ok.said.entries.labels.items c.in-Ok.said.entries.pairs.items c.in-Ok.said.entries.marks.items z)) c.deref-3.ensures.value c.in_default.ensures) (g.F.Field.bits_of c.args.f.now) c.requires.bits c.in_ok-values.values.items c.in_ok-values.ensures.values
     (subst (λ (z : List ℕ). AreGood (length z) (IsDualBy (g.F.Field.bits_of c.args.f.now) (g.F.Field.modulus_of c.args.f.now) (length z) c.in_ok-values.values.items c.in-Ok.said.entries.duals.items z)) c.deref-6.ensures.value
     (subst (λ (z : List ℕ). AreGood (length c.deref-6.result.now) (IsDualBy (g.F.Field.bits_of c.args.f.now) (g.F.Field.modulus_of c.args.f.now) (length c.deref-6.result.now) c.in_ok-values.values.items z c.deref-6.result.now)) c.deref-5.ensures.value
     (subst (λ (z : List ℕ). AreGood (length c.deref-6.result.now) (IsDualBy (g.F.Field.bits_of c.args.f.now) (g.F.Field.modulus_of c.args.f.now) (length c.deref-6.result.now) z c.deref-5.result.now c.deref-6.result.now)) c.deref-4.ensures.value c.in_default-first_bad_dual.ensures))) c.if-not-is_good_head.ensures
