@@ -66,10 +66,12 @@ fn is_good_label<D: OrderDomain>(
     requires marks { length entries.now.marks.items ≡ length indices.now }
     requires functions { AreFunctions (D.domain dom.now) functions.now }
     ensures { MatchBool result
-        (IsLabelBy (D.domain dom.now) functions.now rule entries.now.labels.items entries.now.pairs.items
-        entries.now.marks.items indices.now k)
-        (IsLabelBy (D.domain dom.now) functions.now rule entries.now.labels.items entries.now.pairs.items
-        entries.now.marks.items indices.now k → ⊥) }
+        (IsLabelBy (D.domain dom.now) functions.now rule
+        entries.now.labels.items entries.now.pairs.items entries.now.marks.items
+        indices.now k)
+        (IsLabelBy (D.domain dom.now) functions.now rule
+        entries.now.labels.items entries.now.pairs.items entries.now.marks.items
+        indices.now k → ⊥) }
 {
     let index = indices[k] as usize;
     if index >= functions.labels.len() {
@@ -99,10 +101,10 @@ pub fn first_bad_label<D: OrderDomain>(
     requires marks { length entries.now.marks.items ≡ length indices.now }
     requires functions { AreFunctions (D.domain dom.now) functions.now }
     ensures { MatchOption result
-        (AreGood (length indices.now) (IsLabelBy (D.domain dom.now) functions.now rule entries.now.labels.items
-        entries.now.pairs.items entries.now.marks.items indices.now))
-        (IsFirstBad (length indices.now) (IsLabelBy (D.domain dom.now) functions.now rule entries.now.labels.items
-        entries.now.pairs.items entries.now.marks.items indices.now)) }
+        (AreGood (length indices.now) (IsLabelBy (D.domain dom.now) functions.now rule
+        entries.now.labels.items entries.now.pairs.items entries.now.marks.items indices.now))
+        (IsFirstBad (length indices.now) (IsLabelBy (D.domain dom.now) functions.now rule
+        entries.now.labels.items entries.now.pairs.items entries.now.marks.items indices.now)) }
 {
     for k in 0..indices.len() {
         if !is_good_label(dom, functions, rule, entries, indices, k) {
