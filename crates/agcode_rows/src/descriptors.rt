@@ -49,7 +49,25 @@ weight = 24
 depth = 1
 ";
 
-/// A descriptor with all points of its curve, as the command points lists them.
+/// The line over 4 elements, with all its points: a Reed-Solomon code.
+pub const LINE_4: &str = "bits = 2
+modulus = 7
+space = 1
+points = [[0], [1], [2], [3]]
+weight = 1
+depth = 1
+";
+
+/// The plane over 4 elements: 16 points, and a hyperbolic code on them.
+pub const PLANE_4: &str = "bits = 2
+modulus = 7
+space = 2
+points = []
+improved = 4
+depth = 1
+";
+
+/// A descriptor with all points of its space, as the command points lists them.
 pub fn with_all_points<X: Threads + Sync>(
     rt: &X,
     alloc: Global,

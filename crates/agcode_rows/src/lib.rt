@@ -3,6 +3,8 @@
 #![tactic(auto)]
 
 #[cfg(test)]
+mod affine_rows;
+#[cfg(test)]
 mod bound_rows;
 #[cfg(test)]
 mod compile_rows;

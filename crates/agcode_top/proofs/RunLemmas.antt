@@ -9,7 +9,7 @@ use Rattle.command_words.specs.declared.words.Command.TheVariants.{Member, Point
 use Rattle.code_descriptor.specs.Parts.{Parts}
 use Rattle.code_descriptor.specs.Meaning.{IsRefusedFor, Describes, MeansTheSame}
 use Rattle.code_descriptor.specs.declared.DescCause.{DescCause}
-use Rattle.code_descriptor.specs.declared.DescCause.TheVariants.{TooLarge, NotToml, BadKey, BadField, BadDegrees, BadTerm, MissingLead, BadPoint, BadWeight, BadImproved, BadLayout, BadDepth, NoPoints, NothingFree}
+use Rattle.code_descriptor.specs.declared.DescCause.TheVariants.{TooLarge, NotToml, BadKey, BadField, BadSpace, BadDegrees, BadTerm, MissingLead, BadPoint, BadWeight, BadImproved, BadLayout, BadDepth, NoPoints, NothingFree}
 use Rattle.descriptor_code.specs.Plain.{IsFull}
 use Rattle.stream_codec.specs.declared.encode.EncodeCounts.{EncodeCounts}
 use Rattle.stream_codec.specs.declared.encode.EncodeFault.{EncodeFault}
@@ -205,6 +205,7 @@ takes-all command p e TooLarge h = h
 takes-all command p e NotToml h = h
 takes-all command p e (BadKey key) h = h
 takes-all command p e BadField h = h
+takes-all command p e BadSpace h = h
 takes-all command p e BadDegrees h = h
 takes-all command p e (BadTerm index) h = h
 takes-all command p e MissingLead h = h
@@ -221,6 +222,7 @@ takes-code command p some free TooLarge h = h
 takes-code command p some free NotToml h = h
 takes-code command p some free (BadKey key) h = h
 takes-code command p some free BadField h = h
+takes-code command p some free BadSpace h = h
 takes-code command p some free BadDegrees h = h
 takes-code command p some free (BadTerm index) h = h
 takes-code command p some free MissingLead h = h

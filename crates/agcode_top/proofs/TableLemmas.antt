@@ -11,11 +11,10 @@ use Rattle.order_bound.specs.declared.table.TableSays.{TableSays}
 use Rattle.order_bound.specs.declared.table.TableSays.TheVariants.{Accepted, Refused}
 use Rattle.order_bound.specs.TableChecks.{Says, SaysOfTable}
 use Rattle.block_code.specs.Compiled.{Compiled, IsMade}
-use Rattle.code_descriptor.specs.declared.space.Space.{Space}
-use Rattle.code_descriptor.specs.declared.space.Space.TheVariants.{Cab}
-use Rattle.code_descriptor.specs.Parts.{Parts, IsSpace, IsDescriptor}
-use Rattle.descriptor_code.specs.Codes.{domain_on, domain_of, IsCodeOf}
+use Rattle.code_descriptor.specs.Parts.{Parts, IsDescriptor}
+use Rattle.descriptor_code.specs.Codes.{domain_of, IsCodeOf}
 use Rattle.descriptor_code.specs.PlainLaws.{IsPlain}
+use Rattle.descriptor_code.proofs.Spaces.{bits_in}
 use Rattle.agcode_top.specs.Steps.{SaysOf}
 
 one-bound : (b : Basis) (marks : List Bool) (x y : ℕ) → IsOrderBound b marks x → IsOrderBound b marks y → x ≡ y
@@ -52,11 +51,8 @@ points-on p d modulus points a ed em ep =
     let e : AreOn d modulus p.points = subst (λ (x : ℕ). AreOn d x p.points) (sym em) b in
     subst (λ (x : List Point). AreOn d modulus x) (sym ep) e
 
-space-bits : (bits : ℕ) (s : Space) → IsSpace bits s → (domain_on s).bits ≡ bits
-space-bits bits (Cab e) h = h.1
-
 pub same-bits : (p : Parts) (c : Compiled) (d : Domain) (bits : ℕ) → IsDescriptor p → IsPlain p c → d ≡ domain_of p → bits ≡ c.basis.bits → bits ≡ d.bits
-same-bits p c d bits sound plain ed e = e ∙ plain.bits_are ∙ sym (space-bits p.bits p.space sound.space) ∙ sym (ap (λ (x : Domain). x.bits) ed)
+same-bits p c d bits sound plain ed e = e ∙ plain.bits_are ∙ sym (bits_in p sound) ∙ sym (ap (λ (x : Domain). x.bits) ed)
 
 pub some-points : (p : Parts) (c : Compiled) (points : List Point) → IsPlain p c → IsMade c → points ≡ p.points → 1 ≤ length points
 some-points p c points plain made e =

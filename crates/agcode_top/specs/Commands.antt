@@ -5,12 +5,13 @@
 -- Accepts            a command accepts the text of a descriptor, which describes these parts
 -- IsInputTold        the bytes of the input are told, where a command reads them
 -- IsNoWord           an input is longer or shorter than a word; what was taken of it
--- HasParameters      a text is the parameters of the code of a descriptor, with the normal form of y^a
+-- HasParameters      a text is the parameters of the code of a descriptor, on a curve with the normal form of y^a
 -- AcceptsTable       an input is the table of the order bound, and a text tells the bound
 -- RefusesTable       an input is not that table, and this is the first line at which a check fails
 -- IsNearWord         a codeword that differs from an input at no more positions than the radius
 -- IsFar              there is none
 -- HasVotes           a text is the ledger of the error that leads an input to the codeword near it
+-- point_text         the line of a point of so many coordinates
 -- points_text        all points of a space, a line each
 -- SaysMember         how member ends, with its text on out
 -- SaysCheck          the same of check
@@ -22,14 +23,14 @@
 -- GaveAnswerFront    .. or was stopped by a fault of out, after a front of that text
 -- IsNearCode         an input of n bytes that a codeword is near
 use Rattle.std.specs.Prelude.{◌≡◌, ◌≢◌, ℕ, ◌+◌, ◌<◌, ◌≤◌, min, Bool, true, false, List, [], length, codes, IsTrue}
-use Rattle.std.specs.Prelude.{◌⊎◌}
+use Rattle.std.specs.Prelude.{◌⊎◌, ◌==◌, if◌then◌else◌, Option}
 use Rattle.std.specs.List.{flat_map}
-use Rattle.ag_texts.specs.Lines.{plain_line_of, number_line_of, point_line_of}
+use Rattle.ag_texts.specs.Lines.{plain_line_of, number_line_of}
+use Rattle.ag_texts.specs.Lines.{point1_line_of, point_line_of, point3_line_of}
 use Rattle.stored_form.specs.Form.{distance}
 use Rattle.block_theory.specs.Checks.{IsInCode}
 use Rattle.order_theory.specs.Codes.{low_bits, list_sum}
 use Rattle.order_domain.specs.declared.Point.{Point}
-use Rattle.cab_curve.specs.Points.{curve_points}
 use Rattle.cab_curve.specs.declared.normal.NormTerm.{NormTerm}
 use Rattle.order_bound.specs.TableChecks.{IsRefused as IsRefusedText}
 use Rattle.command_words.specs.declared.words.Command.{Command}
@@ -37,7 +38,7 @@ use Rattle.command_words.specs.declared.words.Command.TheVariants.{Member, Point
 use Rattle.command_words.specs.declared.words.Words.{Words}
 use Rattle.code_descriptor.specs.declared.DescCause.{DescCause}
 use Rattle.code_descriptor.specs.declared.DescCause.TheVariants.{NoPoints, NothingFree}
-use Rattle.code_descriptor.specs.Parts.{Parts, equation}
+use Rattle.code_descriptor.specs.Parts.{Parts, coordinates, points_of}
 use Rattle.code_descriptor.specs.Meaning.{IsRefusedFor, Describes}
 use Rattle.descriptor_code.specs.Plain.{checks, bound, radius, plain_form, IsFull}
 use Rattle.descriptor_code.specs.Plain.{labels, checked_labels, IsRelation}
@@ -83,11 +84,17 @@ pub record IsNoWord (p : Parts) (input : List ℕ) (taken : ℕ) : Type 0 where
   pub other_length : length input ≢ length p.points
   pub taken_is : taken ≡ min (length input) (length p.points + 1)
 
+abbrev pub point_text : ℕ → Point → List ℕ
+point_text coordinates q =
+    if coordinates == 1 then point1_line_of q.x
+    else if coordinates == 2 then point_line_of q.x q.y
+    else point3_line_of q.x q.y q.z
+
 abbrev pub points_text : Parts → List ℕ
-points_text p = flat_map (λ q. point_line_of q.x q.y) (curve_points p.bits p.modulus (equation p.space).terms)
+points_text p = flat_map (point_text (coordinates p.space)) (points_of p.bits p.modulus p.space)
 
 pub record HasParameters (p : Parts) (text : List ℕ) : Type 0 where
-  pub relation : List NormTerm
+  pub relation : Option (List NormTerm)
   pub is_relation : IsRelation p relation
   pub text_is : text ≡ params_text_of
       (length p.points) (labels p) (checked_labels p) (bound p) (radius p) relation

@@ -26,16 +26,10 @@ fn text_of(alloc: Global, described: &DescribedCode) -> Result<Vec<u8>, AllocErr
     };
     let labels = described.labels(alloc)?;
     let checked = described.checked_labels(alloc)?;
-    params_text(
-        alloc,
-        numbers,
-        &labels,
-        &checked,
-        described.relation().terms(),
-    )
+    params_text(alloc, numbers, &labels, &checked, described.relation())
 }
 
-/// Writes the parameters of a code, with the normal form of `y^a`.
+/// Writes the parameters of a code, on a curve with the normal form of `y^a`.
 pub fn params<O: Sink>(alloc: Global, described: &DescribedCode, out: &mut O) -> Status
     ensures leaves { (w : Words) (input : SourceCall) → AnswerLeaves w Params described.now input
         (sink_call O.Sink out.old out.new) result }

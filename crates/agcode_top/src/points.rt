@@ -2,8 +2,7 @@
 
 ghost use Rattle.std.specs.Prelude.{◌≡◌, ℕ, ◌≤◌, ◌++◌, IfOk, OnOk, IsTrue};
 ghost use Rattle.std.specs.List.{flat_map};
-ghost use Rattle.ag_texts.specs.Lines.{point_line_of};
-ghost use Rattle.agcode_top.specs.Commands.{points_text};
+ghost use Rattle.agcode_top.specs.Commands.{point_text, points_text};
 ghost use Rattle.agcode_top.specs.Calls.{sink_call, SourceCall};
 ghost use Rattle.agcode_top.specs.Leaves.{AnswerLeaves};
 ghost use Rattle.command_words.specs.declared.words.Command.TheVariants.{Points};
@@ -12,19 +11,32 @@ ghost use Rattle.command_words.specs.declared.words.Words.{Words};
 use crate::status::Status;
 use crate::word::answer;
 use ag_io::Sink;
-use ag_texts::{LineBuf, point_line};
-use cab_curve::Point;
-use code_descriptor::{Descriptor, Space};
+use ag_texts::{LineBuf, point_line, point1_line, point3_line};
+use code_descriptor::Descriptor;
+use order_domain::Point;
 use std::alloc::{AllocError, Global};
 
-// The lines of these points.
-fn lines_of(alloc: Global, points: &[Point]) -> Result<Vec<u8>, AllocError>
-    ensures { IfOk result (λ text. text.items ≡ flat_map (λ q. point_line_of q.x q.y) points.now) }
+// Makes the line of a point of so many coordinates.
+fn line_of(line: &mut LineBuf, coordinates: u32, point: &Point)
+    ensures { line.new ≡ point_text coordinates point.now }
+{
+    if coordinates == 1 {
+        point1_line(line, point.x);
+    } else if coordinates == 2 {
+        point_line(line, point.x, point.y);
+    } else {
+        point3_line(line, point.x, point.y, point.z);
+    }
+}
+
+// The lines of these points of so many coordinates.
+fn lines_of(alloc: Global, coordinates: u32, points: &[Point]) -> Result<Vec<u8>, AllocError>
+    ensures { IfOk result (λ text. text.items ≡ flat_map (point_text coordinates) points.now) }
 {
     let mut text = Vec::new(alloc);
     let mut line = LineBuf::new();
     for point in points {
-        point_line(&mut line, point.x, point.y);
+        line_of(&mut line, coordinates, point);
         text.extend_from_slice(line.bytes())?;
     }
     Ok(text)
@@ -34,9 +46,9 @@ fn lines_of(alloc: Global, points: &[Point]) -> Result<Vec<u8>, AllocError>
 fn text_of_points(alloc: Global, descriptor: &Descriptor) -> Result<Vec<u8>, AllocError>
     ensures { IfOk result (λ text. text.items ≡ points_text descriptor.now) }
 {
-    let Space::Cab { curve } = descriptor.space();
-    let points = curve.all_points(alloc, descriptor.field())?;
-    lines_of(alloc, &points)
+    let space = descriptor.space();
+    let points = space.all_points(alloc, descriptor.field())?;
+    lines_of(alloc, space.coordinates(), &points)
 }
 
 /// Writes all points of the space, a line each.

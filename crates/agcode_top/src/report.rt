@@ -17,6 +17,7 @@ fn key_line(buf: &mut LineBuf, key: KeyName)
     match key {
         KeyName::Bits => plain_line(buf, "descriptor: key bits"),
         KeyName::Modulus => plain_line(buf, "descriptor: key modulus"),
+        KeyName::Space => plain_line(buf, "descriptor: key space"),
         KeyName::A => plain_line(buf, "descriptor: key a"),
         KeyName::B => plain_line(buf, "descriptor: key b"),
         KeyName::Terms => plain_line(buf, "descriptor: key terms"),
@@ -38,6 +39,7 @@ fn cause_line(buf: &mut LineBuf, cause: DescCause)
         DescCause::NotToml => plain_line(buf, "descriptor: not toml"),
         DescCause::BadKey { key } => key_line(buf, key),
         DescCause::BadField => plain_line(buf, "descriptor: field"),
+        DescCause::BadSpace => plain_line(buf, "descriptor: space"),
         DescCause::BadDegrees => plain_line(buf, "descriptor: degrees"),
         DescCause::BadTerm { index } => number_line(buf, "descriptor: term", u64::from(index)),
         DescCause::MissingLead => plain_line(buf, "descriptor: lead"),

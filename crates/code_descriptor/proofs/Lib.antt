@@ -1,6 +1,8 @@
 pub mod Rows
 pub mod Moduli
 pub mod Terms
+pub mod Integers
+pub mod Spaces
 pub mod PointLoop
 pub mod Tested
 pub mod OneMeaning

@@ -14,8 +14,8 @@ use Rattle.code_descriptor.specs.declared.KeyName.{KeyName}
 use Rattle.code_descriptor.specs.declared.KeyName.TheVariants as key
 use Rattle.code_descriptor.specs.declared.keys.NamedRule.TheVariants.{Weight, Improved}
 use Rattle.code_descriptor.specs.declared.DescCause.{DescCause}
-use Rattle.code_descriptor.specs.declared.DescCause.TheVariants.{TooLarge, NotToml, BadKey, BadField, BadDegrees, BadTerm, MissingLead, BadPoint, BadWeight, BadImproved, BadLayout, BadDepth, NoPoints, NothingFree}
-use Rattle.code_descriptor.specs.Tree.{is_there, integer_at, terms_at, points_at, is_bad, bad_key, Named, NamedRule, IsNamedRule, packed_at, IsNamed}
+use Rattle.code_descriptor.specs.declared.DescCause.TheVariants.{TooLarge, NotToml, BadKey, BadField, BadSpace, BadDegrees, BadTerm, MissingLead, BadPoint, BadWeight, BadImproved, BadLayout, BadDepth, NoPoints, NothingFree}
+use Rattle.code_descriptor.specs.Tree.{is_there, integer_at, terms_at, points_at, has_space, is_bad, bad_key, space_keys, code_keys, Named, NamedCurve, NamedSpace, OfCurve, OfVariables, IsNamedCurve, IsNamedSpace, NamedRule, IsNamedRule, packed_at, IsNamed}
 use Rattle.code_descriptor.specs.Tests.{parts, refusals}
 use Rattle.code_descriptor.specs.Meaning.{Parts, IsTable, Names, IsRefusedPart, IsRefusedFor, Describes, HasOneMeaning, MeansTheSame}
 use Rattle.code_descriptor.proofs.Tested.{found, none_found, refused_part, are_parts, plain_parts}
@@ -33,14 +33,22 @@ or_empty (Some xs) = xs
 named_rule : Members → NamedRule
 named_rule t = if is_there (codes "improved") t then Improved (or_zero (integer_at (codes "improved") t)) else Weight (or_zero (integer_at (codes "weight") t))
 
+named_curve : Members → NamedCurve
+named_curve t = record {
+  a = or_zero (integer_at (codes "a") t);
+  b = or_zero (integer_at (codes "b") t);
+  terms = or_empty (terms_at (codes "terms") t);
+}
+
+named_space : Members → NamedSpace
+named_space t = if has_space t then OfVariables (or_zero (integer_at (codes "space") t)) else OfCurve (named_curve t)
+
 named : Members → Named
 named t = record {
   bits = or_zero (integer_at (codes "bits") t);
   modulus = or_zero (integer_at (codes "modulus") t);
-  a = or_zero (integer_at (codes "a") t);
-  b = or_zero (integer_at (codes "b") t);
-  terms = or_empty (terms_at (codes "terms") t);
-  points = or_empty (points_at (codes "points") t);
+  space = named_space t;
+  points = or_empty (points_at (has_space t) (codes "points") t);
   rule = named_rule t;
   packed = packed_at t;
   depth = or_zero (integer_at (codes "depth") t);
@@ -69,11 +77,17 @@ unfolding named_rule or_zero
 rule_is t (Weight z) h = rw (h.1, h.0) refl
 rule_is t (Improved z) h = let yes_there = there z (codes "improved") t h.1 in rw (yes_there, h.1) refl
 
+space_is : (t : Members) (s : NamedSpace) → IsNamedSpace t s → named_space t ≡ s
+unfolding named_space named_curve or_zero or_empty
+space_is t (OfCurve c) h = rw (h.0, h.1.a, h.1.b, h.1.terms) refl
+space_is t (OfVariables z) h = let yes_there = there z (codes "space") t h in rw (yes_there, h) refl
+
 is_named : (t : Members) (n : Named) → IsNamed t n → named t ≡ n
 unfolding named or_zero or_empty
 is_named t n h =
     let r = rule_is t n.rule h.rule in
-    rw (h.bits, h.modulus, h.a, h.b, h.terms, h.points, r, h.packed, h.depth) refl
+    let s = space_is t n.space h.space in
+    rw (h.bits, h.modulus, s, h.points, r, h.packed, h.depth) refl
 
 -- ---- a table without a bad key
 
@@ -109,15 +123,38 @@ rule_go t None (Some d) e f hw hi =
     subst (λ (x : NamedRule). IsNamedRule t x) (sym r) (no, one)
 rule_go t (Some d) (Some q) e f hw hi = let no = (or_parts (is_none (as_integer q)) true hi).1 in cc
 
+-- whether space, and a key of a curve, is bad, by what stands at space
+space_go : (t : Members) (s : Option Data) → get_member (codes "space") t ≡ s → is_bad t key.Space ≡ false → is_bad t key.A ≡ false → is_bad t key.B ≡ false → is_bad t key.Terms ≡ false
+    → IsNamedSpace t (named_space t)
+unfolding named_space named_curve
+space_go t None e hs ha hb ht =
+    let no : has_space t ≡ false = ap is_some e in
+    let a : is_none (integer_at (codes "a") t) ≡ false = rw no at ha in
+    let b : is_none (integer_at (codes "b") t) ≡ false = rw no at hb in
+    let ts : is_none (terms_at (codes "terms") t) ≡ false = rw no at ht in
+    let r : named_space t ≡ OfCurve (named_curve t) = rw no refl in
+    let c : IsNamedCurve t (named_curve t) = record {
+      a = some_zero (integer_at (codes "a") t) a;
+      b = some_zero (integer_at (codes "b") t) b;
+      terms = some_empty (terms_at (codes "terms") t) ts;
+    } in
+    subst (λ (x : NamedSpace). IsNamedSpace t x) (sym r) (no, c)
+space_go t (Some d) e hs ha hb ht =
+    let yes_there : has_space t ≡ true = ap is_some e in
+    let some : is_none (integer_at (codes "space") t) ≡ false = rw yes_there at hs in
+    let r : named_space t ≡ OfVariables (or_zero (integer_at (codes "space") t)) = rw yes_there refl in
+    subst (λ (x : NamedSpace). IsNamedSpace t x) (sym r) (some_zero (integer_at (codes "space") t) some)
+
 named_is : (t : Members) → bad_key t ≡ None → IsNamed t (named t)
 unfolding bad_key named
 named_is t h =
     let p : KeyName → Bool = is_bad t in
-    let k1 = none_bad p key.Bits (key.Modulus ∷ key.A ∷ key.B ∷ key.Terms ∷ key.Points ∷ key.Weight ∷ key.Improved ∷ key.Layout ∷ key.Depth ∷ key.Unknown ∷ []) h in
-    let k2 = none_bad p key.Modulus (key.A ∷ key.B ∷ key.Terms ∷ key.Points ∷ key.Weight ∷ key.Improved ∷ key.Layout ∷ key.Depth ∷ key.Unknown ∷ []) k1.1 in
-    let k3 = none_bad p key.A (key.B ∷ key.Terms ∷ key.Points ∷ key.Weight ∷ key.Improved ∷ key.Layout ∷ key.Depth ∷ key.Unknown ∷ []) k2.1 in
-    let k4 = none_bad p key.B (key.Terms ∷ key.Points ∷ key.Weight ∷ key.Improved ∷ key.Layout ∷ key.Depth ∷ key.Unknown ∷ []) k3.1 in
-    let k5 = none_bad p key.Terms (key.Points ∷ key.Weight ∷ key.Improved ∷ key.Layout ∷ key.Depth ∷ key.Unknown ∷ []) k4.1 in
+    let k1 = none_bad p key.Bits (key.Modulus ∷ key.Space ∷ key.A ∷ key.B ∷ key.Terms ∷ code_keys) h in
+    let k2 = none_bad p key.Modulus (key.Space ∷ key.A ∷ key.B ∷ key.Terms ∷ code_keys) k1.1 in
+    let ks = none_bad p key.Space (key.A ∷ key.B ∷ key.Terms ∷ code_keys) k2.1 in
+    let k3 = none_bad p key.A (key.B ∷ key.Terms ∷ code_keys) ks.1 in
+    let k4 = none_bad p key.B (key.Terms ∷ code_keys) k3.1 in
+    let k5 = none_bad p key.Terms code_keys k4.1 in
     let k6 = none_bad p key.Points (key.Weight ∷ key.Improved ∷ key.Layout ∷ key.Depth ∷ key.Unknown ∷ []) k5.1 in
     let k7 = none_bad p key.Weight (key.Improved ∷ key.Layout ∷ key.Depth ∷ key.Unknown ∷ []) k6.1 in
     let k8 = none_bad p key.Improved (key.Layout ∷ key.Depth ∷ key.Unknown ∷ []) k7.1 in
@@ -126,10 +163,8 @@ named_is t h =
     record {
       bits = some_zero (integer_at (codes "bits") t) k1.0;
       modulus = some_zero (integer_at (codes "modulus") t) k2.0;
-      a = some_zero (integer_at (codes "a") t) k3.0;
-      b = some_zero (integer_at (codes "b") t) k4.0;
-      terms = some_empty (terms_at (codes "terms") t) k5.0;
-      points = some_empty (points_at (codes "points") t) k6.0;
+      space = space_go t (get_member (codes "space") t) refl ks.0 k3.0 k4.0 k5.0;
+      points = some_empty (points_at (has_space t) (codes "points") t) k6.0;
       rule = rule_go t (get_member (codes "weight") t) (get_member (codes "improved") t) refl refl k7.0 k8.0;
       packed = refl;
       depth = some_zero (integer_at (codes "depth") t) k10.0;
@@ -194,6 +229,7 @@ refused_cause text TooLarge h = large_cause text h
 refused_cause text NotToml h = untabled_cause text h.0 h.1
 refused_cause text (BadKey k) h = key_cause text h.0 k h.1 h.2
 refused_cause text BadField h = part_cause text BadField h
+refused_cause text BadSpace h = part_cause text BadSpace h
 refused_cause text BadDegrees h = part_cause text BadDegrees h
 refused_cause text (BadTerm k) h = part_cause text (BadTerm k) h
 refused_cause text MissingLead h = part_cause text MissingLead h
@@ -219,6 +255,7 @@ pub part_is_refused : (text : List ℕ) (n : Named) → Names text n → (c : De
 part_is_refused text n names c h = go c (refused_part n c h) where
   go : (c : DescCause) → IsRefusedPart n c → IsRefusedFor text c
   go BadField k = (n, names, k)
+  go BadSpace k = (n, names, k)
   go BadDegrees k = (n, names, k)
   go (BadTerm i) k = (n, names, k)
   go MissingLead k = (n, names, k)

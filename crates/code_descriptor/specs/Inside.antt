@@ -3,12 +3,13 @@
 use Rattle.code_descriptor.specs.declared.descriptor.Descriptor.TheInside.{Inside}
 use Rattle.code_descriptor.specs.declared.descriptor.Pieces.{Pieces}
 use Rattle.code_descriptor.specs.Parts.{Parts}
+use Rattle.code_descriptor.specs.Built.{space_of}
 
 abbrev pub parts_of : Inside → Parts
 parts_of d = record {
   bits = d.field.bits;
   modulus = d.field.modulus;
-  space = d.space;
+  space = space_of d.space;
   points = d.points;
   rule = d.rule;
   depth = d.depth;
@@ -19,7 +20,7 @@ abbrev pub of_pieces : Pieces → Parts
 of_pieces d = record {
   bits = d.field.bits;
   modulus = d.field.modulus;
-  space = d.space;
+  space = space_of d.space;
   points = d.points;
   rule = d.rule;
   depth = d.depth;

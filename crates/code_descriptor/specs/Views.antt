@@ -1,6 +1,8 @@
 -- What the values of the code stand for.
 --
+-- space_named      a space, as it is written
 -- named_of         what stands at the keys
+-- IsNamedCode      these points, this rule, this layout and this depth stand at the keys of a table
 -- IsRefusal        the error is want of memory, or this refusal
 -- IsKeyRefusal     the error is want of memory, or that a key is bad, which it is
 -- IsAccepted       what is named by a table describes these parts
@@ -9,7 +11,7 @@
 -- fits_term        whether the three numbers of a term fit those of code
 -- IsFittingPart    the plain terms are those of all terms before the first that does not fit
 -- error_of         what a fault of the curve says, where the terms from a place on may be cut off
-use Rattle.std.specs.Prelude.{◌≡◌, ◌⊎◌, ℕ, ◌<◌, ◌≤◌, Bool, true, false, ◌&&◌, List, length, take, map, ⊤, Option, None, Some}
+use Rattle.std.specs.Prelude.{◌≡◌, ◌⊎◌, ℕ, ◌<◌, ◌≤◌, Bool, true, false, ◌&&◌, List, length, take, map, codes, ⊤, Option, None, Some}
 use Rattle.toml.specs.Data.{Members}
 use Rattle.curve_theory.specs.declared.Term.{Term}
 use Rattle.cab_curve.specs.First.{first_of}
@@ -21,22 +23,33 @@ use Rattle.code_descriptor.specs.declared.DescCause.{DescCause}
 use Rattle.code_descriptor.specs.declared.DescCause.TheVariants as cause
 use Rattle.code_descriptor.specs.declared.KeyName.{KeyName}
 use Rattle.code_descriptor.specs.declared.keys.NamedParts.{NamedParts}
-use Rattle.code_descriptor.specs.Tree.{Named, NamedTerm, IsNamed, bad_key}
+use Rattle.code_descriptor.specs.declared.keys.NamedCode.{NamedCode}
+use Rattle.code_descriptor.specs.declared.keys.NamedSpace as named
+use Rattle.code_descriptor.specs.declared.keys.NamedSpace.TheVariants as kind
+use Rattle.code_descriptor.specs.Tree.{Named, NamedSpace, OfCurve, OfVariables, NamedTerm, IsNamed, IsNamedRule, bad_key, has_space, points_at, packed_at, integer_at}
 use Rattle.code_descriptor.specs.Parts.{Parts}
 use Rattle.code_descriptor.specs.Tests.{fits_u32, is_from_to, plain_term, named_term_at, parts, refusals}
+
+abbrev pub space_named : named.NamedSpace → NamedSpace
+space_named (kind.Curve a b terms) = OfCurve (record { a = a; b = b; terms = terms.items })
+space_named (kind.Affine vars) = OfVariables vars
 
 abbrev pub named_of : NamedParts → Named
 named_of n = record {
   bits = n.bits;
   modulus = n.modulus;
-  a = n.a;
-  b = n.b;
-  terms = n.terms.items;
-  points = n.points.items;
-  rule = n.rule;
-  packed = n.packed;
-  depth = n.depth;
+  space = space_named n.space;
+  points = n.code.points.items;
+  rule = n.code.rule;
+  packed = n.code.packed;
+  depth = n.code.depth;
 }
+
+pub record IsNamedCode (table : Members) (c : NamedCode) : Type 0 where
+  pub points : points_at (has_space table) (codes "points") table ≡ Some c.points.items
+  pub rule : IsNamedRule table c.rule
+  pub packed : packed_at table ≡ c.packed
+  pub depth : integer_at (codes "depth") table ≡ Some c.depth
 
 abbrev pub IsRefusal : DescError → Option DescCause → Type 0
 IsRefusal NoMemory refusal = ⊤

@@ -2,6 +2,7 @@
 
 ghost use Rattle.std.specs.Prelude.{◌≡◌, ℕ};
 ghost use Rattle.code_descriptor.specs.Parts.{Parts, IsDescriptor};
+ghost use Rattle.code_descriptor.specs.Built.{space_of, bits_of};
 ghost use Rattle.code_descriptor.specs.Inside.{of_pieces};
 
 use crate::space::Space;
@@ -70,8 +71,10 @@ impl Descriptor {
     }
 
     /// The parts, each for itself.
+    #[tactic(auto, using(crate::proofs::Spaces::own_bits))]
     pub fn into_pieces(self) -> Pieces
         ensures pieces { of_pieces result ≡ self }
+        ensures bits { bits_of (space_of result.space) ≡ result.field.bits }
         ensures sound { IsDescriptor self }
     {
         let Descriptor {
@@ -102,8 +105,10 @@ impl Descriptor {
     }
 
     /// The space that the points are on.
+    #[tactic(auto, using(crate::proofs::Spaces::own_bits))]
     pub fn space(&self) -> &Space
-        ensures space { result.now ≡ self.now.space }
+        ensures space { space_of result.now ≡ self.now.space }
+        ensures bits { bits_of (space_of result.now) ≡ self.now.bits }
         ensures sound { IsDescriptor self.now }
     {
         &self.space

@@ -19,7 +19,7 @@ ghost use Rattle.code_descriptor.specs.Meaning.{IsRefusedFor, Describes, OneMean
 ghost use Rattle.code_descriptor.specs.Views.{IsAccepted, IsTableRefusal};
 
 pub use descriptor::{Descriptor, Pieces};
-pub use keys::{NamedParts, NamedRule};
+pub use keys::{NamedCode, NamedParts, NamedRule, NamedSpace};
 pub use space::Space;
 use std::alloc::{AllocError, AllocFailed, Global};
 use toml::value::Table;
@@ -36,6 +36,7 @@ pub const MOST_NUMBER: u32 = 65_535;
 pub enum KeyName {
     Bits,
     Modulus,
+    Space,
     A,
     B,
     Terms,
@@ -55,11 +56,14 @@ pub enum DescCause {
     /// The text is not UTF-8, or no document of TOML.
     NotToml,
     /// The first key that is missing or of another kind, in the order of [`KeyName`], else that there is an unknown key.
-    /// `weight` is bad also where `improved` is missing too, and `improved` where `weight` is there too; `layout` may be
-    /// missing.
+    /// `space` and `layout` may be missing. Where `space` is there, `a`, `b` and `terms` are bad where they are there.
+    /// `weight` is bad also where `improved` is missing too, and `improved` where `weight` is there too.
     BadKey { key: KeyName },
     /// `bits` is not 2 to 8, or `modulus` is not irreducible of that degree.
     BadField,
+    /// `space` is not 1 to 3, or it is 3 with `bits` above 5. It stands in place of the next three causes, which are those of
+    /// a curve.
+    BadSpace,
     /// `a` and `b` are not 2 to 32 and coprime.
     BadDegrees,
     /// The first term whose coefficient is no symbol other than 0, whose weight is above `a·b`, or whose exponents are
@@ -67,7 +71,8 @@ pub enum DescCause {
     BadTerm { index: u32 },
     /// There is no term `y^a` or no term `x^b`.
     MissingLead,
-    /// The first point that is not on the curve, that equals an earlier one, or before which 1,024 stand.
+    /// The first point that has more or fewer numbers than the space has coordinates, that is not on the space, that
+    /// equals an earlier one, or before which 1,024 stand.
     BadPoint { index: u32 },
     /// `weight` is there and not 0 to [`MOST_NUMBER`].
     BadWeight,

@@ -4,16 +4,18 @@ ghost use Rattle.std.specs.Prelude.{◌≡◌, ℕ, ◌≤◌, true, false, IfSo
 ghost use Rattle.weight_semi.specs.Generators.{AreGenerators};
 ghost use Rattle.cab_curve.specs.First.{first_of};
 ghost use Rattle.code_descriptor.specs.FieldTest.{is_modulus};
-ghost use Rattle.code_descriptor.specs.Tests.{nat, is_from_to, is_field, are_degrees, parts, plain_rule, rule_refusal, refusals};
-ghost use Rattle.code_descriptor.specs.Views.{named_of, IsRefusal};
+ghost use Rattle.code_descriptor.specs.Built.{space_of};
+ghost use Rattle.code_descriptor.specs.Tests.{nat, is_from_to, is_field, are_degrees, is_affine, are_variables, space_refusal, plain_space, parts, plain_rule, rule_refusal, refusals};
+ghost use Rattle.code_descriptor.specs.Views.{space_named, named_of, IsRefusal};
 
 use crate::curves::curve_of;
-use crate::keys::{NamedParts, NamedRule};
+use crate::keys::{NamedParts, NamedRule, NamedSpace};
 use crate::points::points_of;
 use crate::{DescCause, DescError, Descriptor, MOST_NUMBER, Pieces, Space};
+use affine_domain::AffineDomain;
 use ag_frame::MOST_DEPTH;
 use eval_basis::CheckRule;
-use gf_field::PolyField;
+use gf_field::{Field, PolyField};
 use std::alloc::Global;
 use weight_semi::Semi;
 
@@ -64,6 +66,48 @@ fn degrees_of(a: i64, b: i64) -> Option<Semi>
     Semi::new(a, b)
 }
 
+// The space of so many variables, by the test of them.
+fn new_domain(bits: u32, vars: u32) -> Option<AffineDomain>
+    ensures { MatchOption result
+        (is_affine bits vars ≡ false)
+        (λ d. (is_affine bits vars ≡ true) × (d.bits ≡ bits) × (d.vars ≡ vars)) }
+{
+    AffineDomain::new(bits, vars)
+}
+
+// The space of so many variables, where there is one.
+#[tactic(auto, unfolding(crate::specs::Tests::are_variables))]
+fn domain_of(field: &PolyField, vars: i64) -> Option<AffineDomain>
+    ensures { MatchOption result
+        (are_variables field.now.bits vars ≡ false)
+        (λ d. (are_variables field.now.bits vars ≡ true)
+        × (d.bits ≡ field.now.bits) × (d.vars ≡ nat vars)) }
+{
+    let vars = within(vars, 0, u32::MAX)?;
+    new_domain(field.bits(), vars)
+}
+
+// The space that is named, or the first cause that refuses it.
+#[tactic(auto, unfolding(crate::specs::Tests::space_refusal))]
+fn space_from(alloc: Global, field: &PolyField, named: &NamedSpace) -> Result<Space, DescError>
+    ensures { MatchResult result
+        (λ s. (space_refusal field.now.bits (space_named named.now) ≡ None)
+        × (space_of s ≡ plain_space field.now.bits (space_named named.now)))
+        (λ e. IsRefusal e (space_refusal field.now.bits (space_named named.now))) }
+{
+    match named {
+        NamedSpace::Curve { a, b, terms } => {
+            let degrees = degrees_of(*a, *b).ok_or(DescCause::BadDegrees)?;
+            let curve = curve_of(alloc, field, degrees, terms)?;
+            Ok(Space::Cab { curve })
+        }
+        NamedSpace::Affine { vars } => match domain_of(field, *vars) {
+            Some(domain) => Ok(Space::Affine { domain }),
+            None => Err(DescCause::BadSpace.into()),
+        },
+    }
+}
+
 // The rule, or the cause that refuses it.
 fn rule_of(rule: NamedRule) -> Result<CheckRule, DescCause>
     ensures { MatchResult result
@@ -90,15 +134,14 @@ pub fn descriptor(alloc: Global, named: &NamedParts) -> Result<Descriptor, DescE
         (λ e. IsRefusal e (first_of (refusals (named_of named.now)))) }
 {
     let field = field_of(named.bits, named.modulus).ok_or(DescCause::BadField)?;
-    let degrees = degrees_of(named.a, named.b).ok_or(DescCause::BadDegrees)?;
-    let curve = curve_of(alloc, &field, degrees, &named.terms)?;
-    let points = points_of(alloc, &field, &curve, &named.points)?;
-    let rule = rule_of(named.rule)?;
-    let packed = named.packed.ok_or(DescCause::BadLayout)?;
-    let depth = within(named.depth, 1, MOST_DEPTH).ok_or(DescCause::BadDepth)?;
+    let space = space_from(alloc, &field, &named.space)?;
+    let points = points_of(alloc, &field, &space, &named.code.points)?;
+    let rule = rule_of(named.code.rule)?;
+    let packed = named.code.packed.ok_or(DescCause::BadLayout)?;
+    let depth = within(named.code.depth, 1, MOST_DEPTH).ok_or(DescCause::BadDepth)?;
     Ok(Descriptor::new(Pieces {
         field,
-        space: Space::Cab { curve },
+        space,
         points,
         rule,
         depth,

@@ -1,13 +1,14 @@
-//! From the points of a text to points of a curve.
+//! From the points of a text to points of a space.
 
 ghost use Rattle.std.specs.Prelude.{◌≡◌, ℕ, ◌+◌, ◌<◌, true, false, None, [], ◌∷◌, ◌++◌, IfSome, MatchOption, MatchResult, map, take, length};
-ghost use Rattle.code_descriptor.specs.Tests.{plain_point, has_point, is_curve_point, is_bad_point, point_refusal};
+ghost use Rattle.code_descriptor.specs.Tests.{plain_point, has_point, is_space_point, is_bad_point, point_refusal};
+ghost use Rattle.code_descriptor.specs.Built.{space_of, bits_of};
 ghost use Rattle.code_descriptor.specs.Views.{IsRefusal};
 
 use crate::parts::within;
 use crate::tree::NamedPoint;
-use crate::{DescCause, DescError};
-use cab_curve::{Curve, Point};
+use crate::{DescCause, DescError, Space};
+use cab_curve::Point;
 use gf_field::{Field, PolyField};
 use order_domain::{MOST_POINTS, Points};
 use std::alloc::Global;
@@ -17,31 +18,35 @@ fn has_point(points: &[Point], point: Point) -> bool
     ensures { result ≡ has_point points.now point }
 {
     for other in points {
-        if other.x == point.x && other.y == point.y {
+        if other.x == point.x && other.y == point.y && other.z == point.z {
             return true;
         }
     }
     false
 }
 
-// The point, where its numbers are symbols and it is on the curve.
-#[tactic(auto, unfolding(crate::specs::Tests::is_curve_point))]
-fn curve_point(field: &PolyField, curve: &Curve, point: NamedPoint) -> Option<Point>
-    requires { field.now.bits ≡ curve.now.bits }
+// The point, where it has as many numbers as the space has coordinates, they are symbols, and it is on the space.
+#[tactic(auto, unfolding(crate::specs::Tests::is_space_point))]
+fn space_point(field: &PolyField, space: &Space, point: NamedPoint) -> Option<Point>
+    requires { field.now.bits ≡ bits_of (space_of space.now) }
     ensures { MatchOption result
-        (is_curve_point field.now.bits field.now.modulus curve.now.terms point ≡ false)
-        (λ p. (is_curve_point field.now.bits field.now.modulus curve.now.terms point ≡ true)
+        (is_space_point field.now.bits field.now.modulus (space_of space.now) point ≡ false)
+        (λ p. (is_space_point field.now.bits field.now.modulus (space_of space.now) point ≡ true)
         × (p ≡ plain_point point)) }
 {
+    if point.count != space.coordinates() {
+        return None;
+    }
     let greatest = (1u32 << field.bits()) - 1;
     let x = within(point.x, 0, greatest)?;
     let y = within(point.y, 0, greatest)?;
+    let z = within(point.z, 0, greatest)?;
     let plain = Point {
         x: x as u8,
         y: y as u8,
-        z: 0,
+        z: z as u8,
     };
-    if curve.holds(field, &plain) {
+    if space.holds(field, &plain) {
         Some(plain)
     } else {
         None
@@ -52,17 +57,18 @@ fn curve_point(field: &PolyField, curve: &Curve, point: NamedPoint) -> Option<Po
 #[tactic(auto, unfolding(crate::specs::Tests::is_bad_point))]
 fn next_point(
     field: &PolyField,
-    curve: &Curve,
+    space: &Space,
     points: &[NamedPoint],
     k: usize,
     before: &[Point],
 ) -> Option<Point>
-    requires bits { field.now.bits ≡ curve.now.bits }
+    requires bits { field.now.bits ≡ bits_of (space_of space.now) }
     requires k { k < length points.now }
     requires before { before.now ≡ map plain_point (take k points.now) }
     ensures point { MatchOption result
-        (is_bad_point field.now.bits field.now.modulus curve.now.terms points.now k ≡ true)
-        (λ p. (is_bad_point field.now.bits field.now.modulus curve.now.terms points.now k ≡ false)
+        (is_bad_point field.now.bits field.now.modulus (space_of space.now) points.now k ≡ true)
+        (λ p. (is_bad_point field.now.bits field.now.modulus (space_of space.now) points.now k
+        ≡ false)
         × (map plain_point (take (k + 1) points.now) ≡ before.now ++ p ∷ [])) }
     ensures fresh { IfSome result (λ p. has_point before.now p ≡ false) }
     ensures room { IfSome result (λ _. k < MOST_POINTS) }
@@ -70,7 +76,7 @@ fn next_point(
     if k >= MOST_POINTS {
         return None;
     }
-    let point = curve_point(field, curve, points[k])?;
+    let point = space_point(field, space, points[k])?;
     if has_point(before, point) {
         return None;
     }
@@ -81,19 +87,20 @@ fn next_point(
 pub fn points_of(
     alloc: Global,
     field: &PolyField,
-    curve: &Curve,
+    space: &Space,
     points: &[NamedPoint],
 ) -> Result<Points, DescError>
-    requires { field.now.bits ≡ curve.now.bits }
+    requires { field.now.bits ≡ bits_of (space_of space.now) }
     ensures { MatchResult result
-        (λ v. (point_refusal field.now.bits field.now.modulus curve.now.terms points.now ≡ None)
+        (λ v. (point_refusal field.now.bits field.now.modulus (space_of space.now) points.now
+        ≡ None)
         × (v ≡ map plain_point points.now))
         (λ e. IsRefusal e
-        (point_refusal field.now.bits field.now.modulus curve.now.terms points.now)) }
+        (point_refusal field.now.bits field.now.modulus (space_of space.now) points.now)) }
 {
     let mut plain = Points::new(alloc);
     for k in 0..points.len() {
-        match next_point(field, curve, points, k, plain.as_slice()) {
+        match next_point(field, space, points, k, plain.as_slice()) {
             Some(point) => plain.push(point)?,
             None => return Err(DescCause::BadPoint { index: k as u32 }.into()),
         }

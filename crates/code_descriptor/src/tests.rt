@@ -53,6 +53,7 @@ fn reads_a_descriptor(rt: HostRuntime) -> Result<(), Fail> {
     let d = read(rt.alloc(), A.as_bytes())?;
     assert_eq!(rt; (d.field().bits(), d.field().modulus()), (2, 7));
     match d.space() {
+        Space::Affine { .. } => assert!(rt; false, "an affine space"),
         Space::Cab { curve } => {
             let numbers = (curve.bits(), curve.a(), curve.b(), curve.terms().len());
             assert_eq!(rt; numbers, (2, 2, 3, 3));
@@ -129,10 +130,11 @@ fn refuses_in_order(rt: HostRuntime) -> Result<(), Fail> {
             "layout = 1\n",
             key(KeyName::Weight),
         ),
+        ("depth = 1\n", "depth = 1\nspace = 2\n", key(KeyName::A)),
         (
             "depth = 1\n",
-            "depth = 1\nspace = 2\n",
-            key(KeyName::Unknown),
+            "depth = 1\nspace = [2]\n",
+            key(KeyName::Space),
         ),
         (
             "depth = 1\n",
@@ -249,6 +251,84 @@ fn accepts_the_edges(rt: HostRuntime) -> Result<(), Fail> {
     for (old, new) in cases {
         let text = A.replace(alloc, old, new)?;
         assert!(rt; text.as_str() != A);
+        assert_eq!(rt; cause(&rt, alloc, text.as_bytes()), None, "{new}");
+    }
+    Ok(())
+}
+
+// The line over GF(4) with its four points
+const LINE: &str =
+    "bits = 2\nmodulus = 7\nspace = 1\npoints = [[0], [1], [2], [3]]\nweight = 1\ndepth = 1\n";
+
+#[test]
+fn reads_a_space(rt: HostRuntime) -> Result<(), Fail> {
+    let alloc = rt.alloc();
+    let d = read(alloc, LINE.as_bytes())?;
+    let space = d.space();
+    assert_eq!(rt; (space.coordinates(), d.points().len()), (1, 4));
+    let points = space.all_points(alloc, d.field())?;
+    assert_eq!(rt; d.points().as_slice(), points.as_slice());
+    Ok(())
+}
+
+#[test]
+fn refuses_spaces_in_order(rt: HostRuntime) -> Result<(), Fail> {
+    let alloc = rt.alloc();
+    // What to replace in LINE, by what, and the cause.
+    let cases = [
+        ("space = 1", "space = 4", DescCause::BadSpace),
+        ("space = 1", "space = 0", DescCause::BadSpace),
+        ("space = 1", "space = -1", DescCause::BadSpace),
+        ("space = 1", "space = 4294967297", DescCause::BadSpace),
+        (
+            "bits = 2\nmodulus = 7\nspace = 1",
+            "bits = 6\nmodulus = 67\nspace = 3",
+            DescCause::BadSpace,
+        ),
+        ("space = 1", "space = \"1\"", key(KeyName::Space)),
+        ("space = 1", "space = 1\na = 2", key(KeyName::A)),
+        ("space = 1", "space = 1\nb = [3]", key(KeyName::B)),
+        ("space = 1", "space = 1\nterms = []", key(KeyName::Terms)),
+        ("space = 1", "space = 1.0\na = 2", key(KeyName::Space)),
+        (
+            "modulus = 7\nspace = 1",
+            "space = 1\na = 2",
+            key(KeyName::Modulus),
+        ),
+        ("[[0], ", "[[], ", key(KeyName::Points)),
+        ("[[0], ", "[[0, 0, 0, 0], ", key(KeyName::Points)),
+        ("[[0], ", "[[true], ", key(KeyName::Points)),
+        ("[[0], ", "[0, ", key(KeyName::Points)),
+        ("modulus = 7", "modulus = 5", DescCause::BadField),
+        ("[[0], ", "[[0, 0], ", point(0)),
+        ("space = 1", "space = 2", point(0)),
+        ("[1], ", "[1, 0, 0], ", point(1)),
+        ("[1], ", "[4], ", point(1)),
+        ("[1], ", "[-1], ", point(1)),
+        ("[3]]", "[3], [1]]", point(4)),
+        ("weight = 1", "weight = -1", DescCause::BadWeight),
+        ("space = 1", "space = 1\nspaces = 1", key(KeyName::Unknown)),
+    ];
+    for (old, new, expected) in cases {
+        let text = LINE.replace(alloc, old, new)?;
+        assert!(rt; text.as_str() != LINE);
+        assert_eq!(rt; cause(&rt, alloc, text.as_bytes()), Some(expected), "{new}");
+    }
+    let accepted = [
+        (
+            "space = 1\npoints = [[0], [1], [2], [3]]",
+            "space = 2\npoints = [[0, 0], [0, 1], [3, 0]]",
+        ),
+        (
+            "space = 1\npoints = [[0], [1], [2], [3]]",
+            "space = 3\npoints = [[0, 0, 1], [0, 0, 2], [3, 0, 2]]",
+        ),
+        ("[[0], [1], [2], [3]]", "[]"),
+        ("weight = 1", "improved = 2\nlayout = \"packed\""),
+    ];
+    for (old, new) in accepted {
+        let text = LINE.replace(alloc, old, new)?;
+        assert!(rt; text.as_str() != LINE);
         assert_eq!(rt; cause(&rt, alloc, text.as_bytes()), None, "{new}");
     }
     Ok(())

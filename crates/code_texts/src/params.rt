@@ -2,11 +2,11 @@
 
 ghost use Rattle.std.specs.Prelude.{◌≡◌, ◌≢◌, ℕ, ◌≤◌, ◌++◌, ◌∷◌, [], length, codes, IfOk};
 ghost use Rattle.ag_texts.specs.Lines.{line_of};
-ghost use Rattle.code_texts.specs.Texts.{numbers_line_of, relation_line_of, params_text_of};
+ghost use Rattle.code_texts.specs.Texts.{numbers_line_of, relation_line_of, relation_text_of, params_text_of};
 
 use crate::pieces::{push_field, push_number_line, push_term};
 use ag_texts::LineBuf;
-use cab_curve::NormTerm;
+use cab_curve::{NormTerm, Normal};
 use std::alloc::{AllocError, Global};
 
 /// The numbers of a code: its length, the order bound and the radius.
@@ -53,14 +53,31 @@ fn push_relation(
     Ok(())
 }
 
+// Adds the line of a normal form, or of none.
+fn push_any_relation(
+    text: &mut Vec<u8>,
+    line: &mut LineBuf,
+    relation: &Option<Normal>,
+) -> Result<(), AllocError>
+    ensures { IfOk result (λ _. text.new.items ≡ text.old.items ++ relation_text_of relation.now) }
+{
+    match relation {
+        Some(normal) => push_relation(text, line, normal.terms()),
+        None => {
+            text.extend_from_slice(b"relation none\n")?;
+            Ok(())
+        }
+    }
+}
+
 /// The parameters of a code: n, k, the number of checks, the order bound, the radius, the labels of all members and of the
-/// checked ones, and the normal form of `y^a`, a line each. The line of no labels is its word alone.
+/// checked ones, and the normal form of `y^a` on a curve, a line each. The line of no labels is its word alone.
 pub fn params_text(
     alloc: Global,
     numbers: Parameters,
     labels: &[u32],
     checked: &[u32],
-    relation: &[NormTerm],
+    relation: &Option<Normal>,
 ) -> Result<Vec<u8>, AllocError>
     requires { length checked.now ≤ numbers.n }
     ensures { IfOk result (λ text. text.items
@@ -79,6 +96,6 @@ pub fn params_text(
     push_number_line(&mut text, line, "t", radius)?;
     push_numbers(&mut text, line, "labels", labels)?;
     push_numbers(&mut text, line, "checked", checked)?;
-    push_relation(&mut text, line, relation)?;
+    push_any_relation(&mut text, line, relation)?;
     Ok(text)
 }

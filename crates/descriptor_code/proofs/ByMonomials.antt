@@ -26,9 +26,7 @@ use Rattle.eval_basis.proofs.ByLabels.{at_most_law}
 use Rattle.block_theory.specs.Checks.{ParityChecks, IsInCode}
 use Rattle.block_theory.proofs.Forms.{code_law}
 use Rattle.block_code.specs.Compiled.{Compiled, checks_in}
-use Rattle.code_descriptor.specs.Parts.{Parts, IsDescriptor, IsSpace}
-use Rattle.code_descriptor.specs.declared.space.Space.{Space}
-use Rattle.code_descriptor.specs.declared.space.Space.TheVariants.{Cab}
+use Rattle.code_descriptor.specs.Parts.{Parts, Space, Cab, IsDescriptor, IsSpace}
 use Rattle.descriptor_code.specs.Plain.{checks}
 use Rattle.descriptor_code.specs.Codes.{domain_on, IsCodeOf}
 use Rattle.descriptor_code.specs.PlainLaws.{IsPlain}

@@ -5,4 +5,5 @@ pub mod Votes
 pub mod Plainly
 pub mod OneCode
 pub mod ByMonomials
+pub mod BySpaceMonomials
 pub mod Making

@@ -32,9 +32,7 @@ use Rattle.order_bound.specs.TableText.{Entry, table_text, IsTableOf, entry_of a
 use Rattle.vote_core.specs.declared.ledger.VoteLine.{VoteLine}
 use Rattle.vote_core.specs.Ledgers.{ledger_of, line_of as basis_line}
 use Rattle.block_code.specs.Compiled.{Compiled, checks_in, form_in}
-use Rattle.code_descriptor.specs.Parts.{Parts, IsDescriptor, IsSpace}
-use Rattle.code_descriptor.specs.declared.space.Space.{Space}
-use Rattle.code_descriptor.specs.declared.space.Space.TheVariants.{Cab}
+use Rattle.code_descriptor.specs.Parts.{Parts, Space, Cab, IsDescriptor, IsSpace}
 use Rattle.descriptor_code.specs.Plain.{functions_on, functions_in, times_in, values, value, members, pairs_of, is_checked, checked, free, IsFull, checks, bound, radius, plain_form, labels, checked_labels}
 use Rattle.descriptor_code.specs.Tables.{member_at, error_ranks, member_sums, right, wrong, line_of, ledger, dual_at, AreDuals, entry_of, IsTable}
 use Rattle.descriptor_code.specs.Codes.{domain_on, domain_of, IsCodeOf, form_of_parts}

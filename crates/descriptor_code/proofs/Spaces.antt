@@ -7,9 +7,8 @@ use Rattle.order_domain.specs.Domain.{AreOn, ArePoints, IsOrderDomain}
 use Rattle.order_domain.specs.Functions.{functions_of}
 use Rattle.cab_curve.specs.Points.{is_on_curve}
 use Rattle.cab_curve.specs.DomainLaws.{cab_domain-lawful}
-use Rattle.code_descriptor.specs.Parts.{Parts, IsDescriptor, IsSpace, is_on_space}
-use Rattle.code_descriptor.specs.declared.space.Space.{Space}
-use Rattle.code_descriptor.specs.declared.space.Space.TheVariants.{Cab}
+use Rattle.affine_domain.specs.DomainLaws.{affine_domain-lawful}
+use Rattle.code_descriptor.specs.Parts.{Parts, Space, Cab, Affine, IsDescriptor, IsSpace, is_on_space}
 use Rattle.descriptor_code.specs.Plain.{functions_on, functions_in, times_in}
 use Rattle.descriptor_code.specs.Codes.{domain_on, domain_of}
 
@@ -17,15 +16,19 @@ use Rattle.descriptor_code.specs.Codes.{domain_on, domain_of}
 
 named_on : (s : Space) → functions_of (domain_on s) ≡ functions_on s
 named_on (Cab e) = refl
+named_on (Affine bits vars) = refl
 
 bits_on : (bits : ℕ) (s : Space) → IsSpace bits s → (domain_on s).bits ≡ bits
 bits_on bits (Cab e) h = h.1
+bits_on bits (Affine own vars) h = h.1
 
 lawful_on : (bits : ℕ) (s : Space) → IsSpace bits s → IsOrderDomain (domain_on s)
 lawful_on bits (Cab e) h = cab_domain-lawful e h.0.equation
+lawful_on bits (Affine own vars) h = affine_domain-lawful own vars h.0
 
 point_on : (bits modulus : ℕ) (s : Space) (q : Point) → IsSpace bits s → IsTrue (is_on_space bits modulus s q) → IsTrue ((domain_on s).on modulus q)
 point_on bits modulus (Cab e) q h on = subst (λ (m : ℕ). IsTrue (is_on_curve m modulus e.terms q)) (sym h.1) on
+point_on bits modulus (Affine own vars) q h on = on
 
 -- ---- of a descriptor
 

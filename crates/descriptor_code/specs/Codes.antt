@@ -9,15 +9,15 @@ use Rattle.std.specs.Prelude.{◌≡◌}
 use Rattle.stored_form.specs.Form.{Form, at_layout}
 use Rattle.order_domain.specs.Domain.{Domain}
 use Rattle.cab_curve.specs.Domain.{cab_domain}
+use Rattle.affine_domain.specs.Domain.{affine_domain}
 use Rattle.eval_basis.specs.Rules.{checked_by}
 use Rattle.eval_basis.specs.Built.{IsBuilt}
 use Rattle.block_code.specs.Compiled.{Compiled, IsMade, form_in}
-use Rattle.code_descriptor.specs.Parts.{Parts}
-use Rattle.code_descriptor.specs.declared.space.Space.{Space}
-use Rattle.code_descriptor.specs.declared.space.Space.TheVariants.{Cab}
+use Rattle.code_descriptor.specs.Parts.{Parts, Space, Cab, Affine}
 
 abbrev pub domain_on : Space → Domain
 domain_on (Cab e) = cab_domain e
+domain_on (Affine bits vars) = affine_domain bits vars
 
 abbrev pub domain_of : Parts → Domain
 domain_of p = domain_on p.space

@@ -15,8 +15,7 @@ use Rattle.cab_curve.specs.Domain.{top_of}
 use Rattle.block_theory.specs.Checks.{IsInCode}
 use Rattle.block_code.specs.Compiled.{Compiled}
 use Rattle.eval_basis.specs.declared.checked.CheckRule.TheVariants.{AtMost}
-use Rattle.code_descriptor.specs.Parts.{Parts, IsDescriptor}
-use Rattle.code_descriptor.specs.declared.space.Space.TheVariants.{Cab}
+use Rattle.code_descriptor.specs.Parts.{Parts, Cab, IsDescriptor}
 use Rattle.descriptor_code.specs.Plain.{checks}
 use Rattle.descriptor_code.specs.Codes.{IsCodeOf}
 

@@ -1,6 +1,6 @@
 -- The code of a descriptor, plainly: which functions are new at its points, which of them are checked, and what follows.
 -- Everything is said over the parts that a text describes (`Parts` of code_descriptor), and of the space only its functions
--- are used (`Functions` of order_domain, `cab_functions` of cab_curve). A function is named by its index, a position is the
+-- are used (`Functions` of order_domain, `cab_functions` of cab_curve, `affine_functions` of affine_domain). A function is named by its index, a position is the
 -- place of a point in the list. Source: T. Høholdt, J. H. van Lint, R. Pellikaan, "Algebraic geometry codes", in the
 -- Handbook of Coding Theory, 1998.
 --
@@ -21,10 +21,10 @@
 -- plain_form       the code as coded files see it: words and nears of the checks and the radius, in groups and layout
 -- labels           the labels of the members
 -- checked_labels   the labels of the checked members
--- IsRelation       a normal form of the leading power of the space: of y^a on a curve
+-- IsRelation       the normal form of y^a on a curve, and none on an affine space
 --
 -- What the candidates of an error say, and the table of the bound, are in Tables.
-use Rattle.std.specs.Prelude.{◌≡◌, ℕ, ◌-◌, ◌/◌, ◌^◌, min, Bool, not, List, [], ◌∷◌, length, map, filter, slice_index}
+use Rattle.std.specs.Prelude.{◌≡◌, ℕ, ◌-◌, ◌/◌, ◌^◌, min, Bool, not, Option, Some, None, List, [], ◌∷◌, length, map, filter, slice_index}
 use Rattle.std.specs.List.{range_with_len}
 use Rattle.gf_theory.specs.Field.{gf_mul}
 use Rattle.linear_theory.specs.Linear.{in_span}
@@ -34,15 +34,15 @@ use Rattle.block_theory.specs.Blocks.{form_of}
 use Rattle.order_domain.specs.Functions as functions
 use Rattle.order_domain.specs.Functions.{Functions, pair_count}
 use Rattle.cab_curve.specs.Domain.{cab_functions}
+use Rattle.affine_domain.specs.Domain.{affine_functions}
 use Rattle.cab_curve.specs.NormalForms.{IsNormalOf}
 use Rattle.cab_curve.specs.declared.normal.NormTerm.{NormTerm}
 use Rattle.eval_basis.specs.Rules.{rule_checks}
-use Rattle.code_descriptor.specs.Parts.{Parts}
-use Rattle.code_descriptor.specs.declared.space.Space.{Space}
-use Rattle.code_descriptor.specs.declared.space.Space.TheVariants.{Cab}
+use Rattle.code_descriptor.specs.Parts.{Parts, Space, Cab, Affine}
 
 abbrev pub functions_on : Space → Functions
 functions_on (Cab e) = cab_functions e
+functions_on (Affine bits vars) = affine_functions bits vars
 
 abbrev pub functions_in : Parts → Functions
 functions_in p = functions_on p.space
@@ -101,8 +101,11 @@ labels p = map (functions_in p).label (members p)
 abbrev pub checked_labels : Parts → List ℕ
 checked_labels p = map (functions_in p).label (checked p)
 
-abbrev pub IsRelationOn : (modulus : ℕ) → Space → List NormTerm → Type 0
-IsRelationOn modulus (Cab e) terms = IsNormalOf e modulus 0 e.a terms
+abbrev pub IsRelationOn : (modulus : ℕ) → Space → Option (List NormTerm) → Type 0
+IsRelationOn modulus (Cab e) (Some terms) = IsNormalOf e modulus 0 e.a terms
+IsRelationOn modulus (Affine bits vars) None = Unit {0}
+IsRelationOn modulus (Cab e) None = ⊥
+IsRelationOn modulus (Affine bits vars) (Some terms) = ⊥
 
-abbrev pub IsRelation : Parts → List NormTerm → Type 0
-IsRelation p terms = IsRelationOn p.modulus p.space terms
+abbrev pub IsRelation : Parts → Option (List NormTerm) → Type 0
+IsRelation p relation = IsRelationOn p.modulus p.space relation

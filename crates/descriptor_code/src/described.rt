@@ -5,16 +5,18 @@ ghost use Rattle.block_theory.specs.Marked.{chosen};
 ghost use Rattle.order_domain.specs.Domain.{AreOn};
 ghost use Rattle.order_domain.specs.Points.{IsPointList};
 ghost use Rattle.code_descriptor.specs.Parts.{IsDescriptor};
-ghost use Rattle.descriptor_code.specs.Plain.{IsFull, IsRelation, labels, checked_labels};
+ghost use Rattle.code_descriptor.specs.Built.{space_of, bits_of};
+ghost use Rattle.descriptor_code.specs.Plain.{IsFull, IsRelationOn, IsRelation, labels, checked_labels};
 ghost use Rattle.descriptor_code.specs.Codes.{domain_of, IsCodeOf};
 ghost use Rattle.descriptor_code.specs.PlainLaws.{IsPlain};
 
+use crate::space_domain::SpaceDomain;
 use ag_pool::Workers;
 use block_code::{Code, CompileFault};
-use cab_curve::{CabDomain, Curve, Normal};
+use cab_curve::Normal;
 use code_descriptor::{Descriptor, Pieces, Space};
 use eval_basis::{CheckRule, Checked, EvalBasis};
-use gf_field::Field;
+use gf_field::{Field, PolyField};
 use gf_tables::TableField;
 use order_domain::{OrderDomain, Points};
 use std::alloc::{AllocError, Global};
@@ -26,10 +28,10 @@ use std::thread::Threads;
 #[derive(Drop)]
 pub struct DescribedCode {
     code: Code<TableField>,
-    domain: CabDomain,
+    domain: SpaceDomain,
     points: Points,
-    // The normal form of the leading power, of `y^a` on a curve.
-    relation: Normal,
+    // The normal form of `y^a` on a curve.
+    relation: Option<Normal>,
     rule: CheckRule,
     depth: u32,
     packed: bool,
@@ -47,12 +49,22 @@ impl Model for DescribedCode {
     ghost invariant = { λ s. IsDescribed (parts_in s) s.code s.relation };
 }
 
-// The curve that a space is. A second kind of space is told apart here.
-fn curve_of(space: Space) -> Curve
-    ensures { space ≡ Space.Cab result }
+// The normal form of `y^a` on a curve; None on an affine space. The only error is want of memory.
+fn relation_on(
+    alloc: Global,
+    field: &PolyField,
+    space: &Space,
+) -> Result<Option<Normal>, AllocError>
+    requires { field.now.bits ≡ bits_of (space_of space.now) }
+    ensures { IfOk result (IsRelationOn field.now.modulus (space_of space.now)) }
 {
-    let Space::Cab { curve } = space;
-    curve
+    match space {
+        Space::Cab { curve } => {
+            let normal = curve.normal(alloc, field, 0, curve.a())?;
+            Ok(Some(normal))
+        }
+        Space::Affine { .. } => Ok(None),
+    }
 }
 
 impl DescribedCode {
@@ -77,10 +89,9 @@ impl DescribedCode {
             depth,
             packed,
         } = descriptor.into_pieces();
-        let curve = curve_of(space);
         let tables = TableField::new(alloc, &field)?;
-        let relation = curve.normal(alloc, &field, 0, curve.a())?;
-        let domain = CabDomain::new(alloc, curve, field.bits())?;
+        let relation = relation_on(alloc, &field, &space)?;
+        let domain = SpaceDomain::new(alloc, space, field.bits())?;
         let code = Code::compile(rt, alloc, tables, &domain, &points, rule, workers)?;
         Ok(DescribedCode {
             code,
@@ -103,8 +114,8 @@ impl DescribedCode {
     }
 
     /// The functions of the space.
-    pub fn domain(&self) -> &CabDomain
-        ensures domain { ⟦<CabDomain as OrderDomain>⟧.domain result.now ≡ domain_of self.now }
+    pub fn domain(&self) -> &SpaceDomain
+        ensures domain { ⟦<SpaceDomain as OrderDomain>⟧.domain result.now ≡ domain_of self.now }
         ensures descriptor { IsDescriptor self.now }
     {
         &self.domain
@@ -119,8 +130,8 @@ impl DescribedCode {
         &self.points
     }
 
-    /// The normal form of the leading power of the space, of `y^a` on a curve.
-    pub fn relation(&self) -> &Normal
+    /// The normal form of `y^a` on a curve; None on an affine space.
+    pub fn relation(&self) -> &Option<Normal>
         ensures { IsRelation self.now result.now }
     {
         &self.relation

@@ -15,11 +15,15 @@ use std::thread::Threads;
 const CURVE: &str =
     "bits = 2\nmodulus = 7\na = 2\nb = 3\nterms = [[0, 2, 1], [0, 1, 1], [3, 0, 1]]\npoints = [[0, 0], [0, 1], [1, 2], [1, 3], [2, 2], [2, 3], [3, 2], [3, 3]]\ndepth = 4\n";
 
-// The descriptor with a rule, which is a line of the text.
-fn described(alloc: Global, rule: &str) -> Option<Descriptor>
+// The plane over GF(4), at six of its points, in groups of four codewords
+const PLANE: &str =
+    "bits = 2\nmodulus = 7\nspace = 2\npoints = [[0, 0], [0, 1], [0, 2], [1, 0], [1, 1], [2, 0]]\ndepth = 4\n";
+
+// The descriptor of a space with a rule, which is a line of the text.
+fn described(alloc: Global, space: &str, rule: &str) -> Option<Descriptor>
     ensures { IfSome result (λ d. 1 ≤ length d.points) }
 {
-    let text = format!(in alloc; "{CURVE}{rule}\n").ok()?;
+    let text = format!(in alloc; "{space}{rule}\n").ok()?;
     let descriptor = read(alloc, text.as_bytes()).ok()?;
     if descriptor.points().len() == 0 {
         return None;
@@ -31,14 +35,20 @@ fn described(alloc: Global, rule: &str) -> Option<Descriptor>
 fn compiled<X: Threads + Sync>(
     rt: &X,
     alloc: Global,
+    space: &str,
     rule: &str,
 ) -> Option<Result<DescribedCode, CompileFault>> {
-    let descriptor = described(alloc, rule)?;
+    let descriptor = described(alloc, space, rule)?;
     Some(DescribedCode::compile(rt, alloc, descriptor, Workers::ONE))
 }
 
-fn code_of<X: Threads + Sync>(rt: &X, alloc: Global, rule: &str) -> Option<DescribedCode> {
-    compiled(rt, alloc, rule)?.ok()
+fn code_of<X: Threads + Sync>(
+    rt: &X,
+    alloc: Global,
+    space: &str,
+    rule: &str,
+) -> Option<DescribedCode> {
+    compiled(rt, alloc, space, rule)?.ok()
 }
 
 // n, k, the order bound and the radius.
@@ -51,18 +61,19 @@ fn numbers(made: &DescribedCode) -> (u32, u32, u32, u32) {
 fn has_numbers<X: Threads + Sync>(
     rt: &X,
     alloc: Global,
+    space: &str,
     rule: &str,
     expected: (u32, u32, u32, u32),
 ) -> bool {
-    match code_of(rt, alloc, rule) {
+    match code_of(rt, alloc, space, rule) {
         Some(made) => numbers(&made) == expected,
         None => false,
     }
 }
 
 // Whether a rule leaves no member free.
-fn is_full<X: Threads + Sync>(rt: &X, alloc: Global, rule: &str) -> bool {
-    match compiled(rt, alloc, rule) {
+fn is_full<X: Threads + Sync>(rt: &X, alloc: Global, space: &str, rule: &str) -> bool {
+    match compiled(rt, alloc, space, rule) {
         Some(Err(CompileFault::NothingFree)) => true,
         _ => false,
     }
@@ -72,11 +83,12 @@ fn is_full<X: Threads + Sync>(rt: &X, alloc: Global, rule: &str) -> bool {
 fn has_labels<X: Threads + Sync>(
     rt: &X,
     alloc: Global,
+    space: &str,
     rule: &str,
     labels: &[u32],
     checked: &[u32],
 ) -> bool {
-    let Some(made) = code_of(rt, alloc, rule) else {
+    let Some(made) = code_of(rt, alloc, space, rule) else {
         return false;
     };
     match (made.labels(alloc), made.checked_labels(alloc)) {
@@ -109,29 +121,47 @@ fn compiles_a_descriptor(rt: HostRuntime) {
         ("improved = 3", (8, 5, 3, 1)),
     ];
     for (rule, numbers) in cases {
-        assert!(rt; has_numbers(&rt, alloc, rule, numbers));
+        assert!(rt; has_numbers(&rt, alloc, CURVE, rule, numbers));
     }
-    assert!(rt; is_full(&rt, alloc, "weight = 9"));
-    assert!(rt; is_full(&rt, alloc, "improved = 9"));
+    assert!(rt; is_full(&rt, alloc, CURVE, "weight = 9"));
+    assert!(rt; is_full(&rt, alloc, CURVE, "improved = 9"));
 }
 
 #[test]
 fn checks_by_either_rule(rt: HostRuntime) {
     let alloc = rt.alloc();
     let all = [0, 2, 3, 4, 5, 6, 7, 9];
-    assert!(rt; has_labels(&rt, alloc, "weight = 5", &all, &[0, 2, 3, 4, 5]));
-    assert!(rt; has_labels(&rt, alloc, "improved = 3", &all, &[0, 2, 3]));
-    assert!(rt; has_labels(&rt, alloc, "improved = 0", &all, &[]));
+    assert!(rt; has_labels(&rt, alloc, CURVE, "weight = 5", &all, &[0, 2, 3, 4, 5]));
+    assert!(rt; has_labels(&rt, alloc, CURVE, "improved = 3", &all, &[0, 2, 3]));
+    assert!(rt; has_labels(&rt, alloc, CURVE, "improved = 0", &all, &[]));
 }
 
 #[test]
 fn keeps_what_it_was_described_by(rt: HostRuntime) -> Result<(), Fail> {
-    let made = code_of(&rt, rt.alloc(), "weight = 5").ok_or("no code")?;
+    let made = code_of(&rt, rt.alloc(), CURVE, "weight = 5").ok_or("no code")?;
     assert!(rt; kept(&made) == (4, false, 9, 2, 8));
-    let relation = made.relation().terms();
-    assert_eq!(rt; relation.len(), 2);
-    for (term, expected) in relation.iter().zip([(3, 1), (6, 1)]) {
+    let relation = made.relation().as_ref().ok_or("no relation")?;
+    assert_eq!(rt; relation.terms().len(), 2);
+    for (term, expected) in relation.terms().iter().zip([(3, 1), (6, 1)]) {
         assert_eq!(rt; (term.weight, term.c), expected);
     }
+    Ok(())
+}
+
+// The members are 1, x, y, x², xy and y², since x²y² and the like are combinations of them at these points, and they have 1,
+// 2, 2, 3, 4 and 3 pairs.
+#[test]
+fn compiles_a_code_on_a_space(rt: HostRuntime) -> Result<(), Fail> {
+    let alloc = rt.alloc();
+    let cases = [("weight = 2", (6, 3, 3, 1)), ("improved = 3", (6, 3, 3, 1))];
+    for (rule, numbers) in cases {
+        assert!(rt; has_numbers(&rt, alloc, PLANE, rule, numbers));
+    }
+    assert!(rt; is_full(&rt, alloc, PLANE, "weight = 5"));
+    let all = [0, 1, 2, 3, 4, 5];
+    assert!(rt; has_labels(&rt, alloc, PLANE, "weight = 2", &all, &[0, 1, 2]));
+    let made = code_of(&rt, alloc, PLANE, "weight = 2").ok_or("no code")?;
+    assert!(rt; kept(&made) == (4, false, 28, 2, 6));
+    assert!(rt; made.relation().is_none());
     Ok(())
 }
