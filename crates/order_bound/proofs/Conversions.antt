@@ -1,14 +1,15 @@
 -- The checks by plain lists are the checks of the label lines
-use Rattle.std.proofs.Common.{◌≡◌, ℕ, zero, suc, ◌+◌, ◌-◌, ◌*◌, ◌<◌, Bool, false, cond, List, [], ◌∷◌, ◌++◌, length, take, drop, map, get_or, refl, ap, sym, ◌∙◌, subst, arith, inl, inr, All, count_by}
-use Rattle.std.specs.Prelude.{slice_index}
+use Rattle.std.proofs.Common.{◌≡◌, ℕ, zero, suc, ◌+◌, ◌-◌, ◌*◌, ◌<◌, Bool, true, false, cond, List, [], ◌∷◌, ◌++◌, length, take, drop, map, get_or, refl, ap, sym, ◌∙◌, subst, arith, inl, inr, All, count_by}
+use Rattle.std.specs.Prelude.{slice_index, MatchBool}
 use Rattle.std.specs.List.{fold, flat_map, slice_range}
 use Rattle.std.proofs.Math.Seq.{drop-append-add}
 use Rattle.std.proofs.lemmas.Bool.{cases_eq, cases_lt}
-use Rattle.std.proofs.lemmas.List.{get_or-map, take-append-le, get_or-take, get_or-drop, length-append, length-map, take_all}
+use Rattle.std.proofs.lemmas.List.{get_or-map, take-append-le, length-append, length-map, take_all}
 use Rattle.std.proofs.lemmas.List.Elements.{All-append, All-nil}
 use Rattle.field_theory.proofs.Sums.{sum-same}
 use Rattle.gf_theory.specs.Field.{gf_mul}
-use Rattle.linear_theory.specs.Linear.{dot}
+use Rattle.linear_theory.specs.Linear.{dot, combine}
+use Rattle.gf_linear.specs.Cells.{cell}
 use Rattle.counting_theory.specs.Votes.{pairs}
 use Rattle.order_theory.specs.Codes.{marked}
 use Rattle.order_domain.specs.declared.Point.{Point}
@@ -178,18 +179,17 @@ module _ (size n : ℕ) (entries : List Entry) (c : Entries) (cols : AreColumns 
       indices_found good k l = omega (arith, (good.each k l).found, are.labels_are.long)
 
     -- ---- dual lists
-    module _ (modulus : ℕ) (points : List Point) (values : List ℕ) (grid : IsGrid d.count (length points) (value_at d modulus points) values) (n_points : n ≡ length points)
+    module _ (modulus : ℕ) (points : List Point) (values : List ℕ) (grid : IsGrid (length points) d.count (λ p i. value_at d modulus points i p) values) (n_points : n ≡ length points)
         (found : (k : ℕ) → k < n → slice_index indices k < d.count) where
-      product_is : (k i : ℕ) → k < n → i < d.count → product_of d.bits modulus n values c.duals.items k i ≡ dual_product d modulus points entries k i
+      product_is : (k i : ℕ) → k < n → i < d.count → product_of d.bits modulus n d.count values c.duals.items k i ≡ dual_product d modulus points entries k i
       product_is k i l li =
-          sum-same n (λ p. gf_mul d.bits modulus (slice_index (slice_range c.duals.items (k * n) (k * n + n)) p) (slice_index (slice_range values (i * n) (i * n + n)) p)) (λ p. gf_mul d.bits modulus (slice_index (entry_at entries k).dual p) (value_at d modulus points i p))
+          sum-same n (λ p. gf_mul d.bits modulus (slice_index (slice_range c.duals.items (k * n) (k * n + n)) p) (slice_index values (p * d.count + i))) (λ p. gf_mul d.bits modulus (slice_index (entry_at entries k).dual p) (value_at d modulus points i p))
           (λ p lp.
-          ap (λ (z : List ℕ). gf_mul d.bits modulus (slice_index z p) (slice_index (slice_range values (i * n) (i * n + n)) p)) (dual_is k l)
-          ∙ ap (λ (x : ℕ). gf_mul d.bits modulus (slice_index (entry_at entries k).dual p) x)
-          (get_or-take (i * n + n - i * n) (drop (i * n) values) p 0 (omega arith) ∙ get_or-drop (i * n) values p 0 ∙ ap (λ (m : ℕ). slice_index values (i * m + p)) n_points ∙ grid.entries i p li (omega arith)))
+          ap (λ (z : List ℕ). gf_mul d.bits modulus (slice_index z p) (slice_index values (p * d.count + i))) (dual_is k l)
+          ∙ ap (λ (x : ℕ). gf_mul d.bits modulus (slice_index (entry_at entries k).dual p) x) (grid.entries p i (omega arith) li))
           ∙ ap (λ (m : ℕ). dot (gf_mul d.bits modulus) m (slice_index (entry_at entries k).dual) (value_at d modulus points i)) n_points
 
-      pub dual_from : (k : ℕ) → k < n → IsDualBy d.bits modulus n values c.duals.items indices k → IsGoodDual d modulus points entries k
+      pub dual_from : (k : ℕ) → k < n → IsDualBy d.bits modulus n d.count values c.duals.items indices k → IsGoodDual d modulus points entries k
       dual_from k l h = record {
         before = λ i li less.
             let up : i < slice_index indices k = elim (cases_lt i (slice_index indices k)) [
@@ -200,13 +200,13 @@ module _ (size n : ℕ) (entries : List Entry) (c : Entries) (cols : AreColumns 
               ]
             ] in
             sym (product_is k i l li) ∙ h.before.each i up;
-        own = λ i x. sym (product_is k i l x.below) ∙ ap (product_of d.bits modulus n values c.duals.items k) (only_is k i l (found k l) x) ∙ h.own;
+        own = λ i x. sym (product_is k i l x.below) ∙ ap (product_of d.bits modulus n d.count values c.duals.items k) (only_is k i l (found k l) x) ∙ h.own;
         later = λ j i less lj x.
             let below : j < n = omega arith in
-            sym (product_is k i l x.below) ∙ ap (product_of d.bits modulus n values c.duals.items k) (only_is j i below (found j below) x) ∙ h.later.each j less below;
+            sym (product_is k i l x.below) ∙ ap (product_of d.bits modulus n d.count values c.duals.items k) (only_is j i below (found j below) x) ∙ h.later.each j less below;
       }
 
-      pub dual_to : (k : ℕ) → k < n → IsGoodDual d modulus points entries k → IsDualBy d.bits modulus n values c.duals.items indices k
+      pub dual_to : (k : ℕ) → k < n → IsGoodDual d modulus points entries k → IsDualBy d.bits modulus n d.count values c.duals.items indices k
       dual_to k l g = record {
         before = record {
           each = λ i less.
@@ -228,3 +228,16 @@ first_bad n k P Q to from h = record {
 
 pub all_good : (n : ℕ) (P Q : ℕ → Type 0) → ((j : ℕ) → j < n → P j → Q j) → AreGood n P → AreGood n Q
 all_good n P Q to h = record { each = λ j l. to j l (h.each j l) }
+
+-- ---- the products of a list, as they were made
+pub products_of : (bits modulus n functions k : ℕ) (values duals list products : List ℕ) → list ≡ slice_range duals (k * n) (k * n + n) → length list ≡ n
+    → ((i : ℕ) → i < functions → slice_index products i ≡ combine (gf_mul bits modulus) (length list) (slice_index list) (cell values functions) i)
+    → (i : ℕ) → i < functions → slice_index products i ≡ product_of bits modulus n functions values duals k i
+products_of bits modulus n functions k values duals list products e long are i l =
+    are i l ∙ ap (λ (m : ℕ). combine (gf_mul bits modulus) m (slice_index list) (cell values functions) i) long
+    ∙ ap (λ (w : List ℕ). combine (gf_mul bits modulus) n (slice_index w) (cell values functions) i) e
+
+-- a verdict on the last of three checks is that on all
+pub verdict_of : (A B : Type 0) (r : Bool) → (A → B) → (B → A) → MatchBool r A (A → ⊥) → MatchBool r B (B → ⊥)
+verdict_of A B true to from h = to h
+verdict_of A B false to from h = λ b. h (from b)

@@ -3,8 +3,8 @@
 -- IsIndexOf       the place of a label in a list of labels, or the list's length where it is not there
 -- AreIndices      the places of several labels
 -- IsLabelBy       the check of the label on line k, by these lists
--- product_of      the product of dual list k with row i of the values
--- VanishesBefore  the products of dual list k with the first rows are 0
+-- product_of      the product of dual list k with function i, where the values stand position by position
+-- VanishesBefore  the products of dual list k with the first functions are 0
 -- VanishesLater   and so are those with the functions of the later lines
 -- IsDualBy        the check of the dual list on line k, by these lists
 -- IsLeastFree     the least pairs of a line with no mark, if there is one
@@ -14,7 +14,8 @@
 use Rattle.std.specs.Prelude.{◌≡◌, ◌≢◌, ℕ, suc, ◌+◌, ◌*◌, ◌^◌, ◌<◌, ◌≤◌, Bool, false, List, length, count_by, slice_index}
 use Rattle.std.specs.List.{slice_range}
 use Rattle.gf_theory.specs.Field.{gf_mul}
-use Rattle.linear_theory.specs.Linear.{dot}
+use Rattle.linear_theory.specs.Linear.{combine}
+use Rattle.gf_linear.specs.Cells.{cell}
 use Rattle.counting_theory.specs.Votes.{pairs as pairs_of}
 use Rattle.order_theory.specs.Codes.{marked}
 use Rattle.order_domain.specs.Domain.{Domain, IsOrderDomain}
@@ -49,19 +50,19 @@ pub record IsLabelBy (d : Domain) (functions : Functions) (rule : CheckRule) (la
   pub pairs_are : slice_index pairs k ≡ pairs_of d.count (sum_or_count d) (slice_index indices k)
   pub mark_is : marked marks k ≡ rule_checks rule (slice_index functions.labels.items (slice_index indices k)) (pairs_of d.count (sum_or_count d) (slice_index indices k))
 
-abbrev pub product_of : (bits modulus n : ℕ) → List ℕ → List ℕ → ℕ → ℕ → ℕ
-product_of bits modulus n values duals k i = dot (gf_mul bits modulus) n (slice_index (slice_range duals (k * n) (k * n + n))) (slice_index (slice_range values (i * n) (i * n + n)))
+abbrev pub product_of : (bits modulus n functions : ℕ) → List ℕ → List ℕ → ℕ → ℕ → ℕ
+product_of bits modulus n functions values duals k i = combine (gf_mul bits modulus) n (slice_index (slice_range duals (k * n) (k * n + n))) (cell values functions) i
 
-pub record VanishesBefore (bits modulus n : ℕ) (values duals : List ℕ) (k end : ℕ) : Type 0 where
-  pub each : (i : ℕ) → i < end → product_of bits modulus n values duals k i ≡ 0
+pub record VanishesBefore (bits modulus n functions : ℕ) (values duals : List ℕ) (k end : ℕ) : Type 0 where
+  pub each : (i : ℕ) → i < end → product_of bits modulus n functions values duals k i ≡ 0
 
-pub record VanishesLater (bits modulus n : ℕ) (values duals indices : List ℕ) (k : ℕ) : Type 0 where
-  pub each : (j : ℕ) → k < j → j < n → product_of bits modulus n values duals k (slice_index indices j) ≡ 0
+pub record VanishesLater (bits modulus n functions : ℕ) (values duals indices : List ℕ) (k : ℕ) : Type 0 where
+  pub each : (j : ℕ) → k < j → j < n → product_of bits modulus n functions values duals k (slice_index indices j) ≡ 0
 
-pub record IsDualBy (bits modulus n : ℕ) (values duals indices : List ℕ) (k : ℕ) : Type 0 where
-  pub before : VanishesBefore bits modulus n values duals k (slice_index indices k)
-  pub own : product_of bits modulus n values duals k (slice_index indices k) ≡ 1
-  pub later : VanishesLater bits modulus n values duals indices k
+pub record IsDualBy (bits modulus n functions : ℕ) (values duals indices : List ℕ) (k : ℕ) : Type 0 where
+  pub before : VanishesBefore bits modulus n functions values duals k (slice_index indices k)
+  pub own : product_of bits modulus n functions values duals k (slice_index indices k) ≡ 1
+  pub later : VanishesLater bits modulus n functions values duals indices k
 
 pub record IsLeastFree (n : ℕ) (pairs : List ℕ) (marks : List Bool) (least : ℕ) : Type 0 where
   pub reached : (k : ℕ) × (k < n) × (marked marks k ≡ false) × (slice_index pairs k ≡ least)

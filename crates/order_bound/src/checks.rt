@@ -1,7 +1,10 @@
 //! The checks of what a table says, by lists of plain numbers.
 
 ghost use Rattle.std.specs.Prelude.{ℕ, ◌≡◌, ◌+◌, ◌*◌, ◌^◌, ◌<◌, ◌≤◌, suc, Bool, All, length, slice_index, IfOk, MatchBool, MatchOption};
-ghost use Rattle.order_bound.specs.Checking.{AreFunctions, IsIndexOf, AreIndices, IsLabelBy, product_of, VanishesBefore, VanishesLater, IsDualBy, IsLeastFree, IsHeadBy};
+ghost use Rattle.gf_theory.specs.Field.{gf_mul};
+ghost use Rattle.linear_theory.specs.Linear.{combine};
+ghost use Rattle.gf_linear.specs.Cells.{cell};
+ghost use Rattle.order_bound.specs.Checking.{AreFunctions, IsIndexOf, AreIndices, IsLabelBy, IsDualBy, IsLeastFree, IsHeadBy};
 ghost use Rattle.order_bound.specs.TableChecks.{AreGood, IsFirstBad};
 
 use crate::functions::Functions;
@@ -9,7 +12,7 @@ use crate::pairs::pairs_of;
 use crate::reader::{Entries, Said};
 use eval_basis::CheckRule;
 use gf_field::Field;
-use gf_linear::dot;
+use gf_linear::add_scaled;
 use order_domain::OrderDomain;
 use std::alloc::{AllocError, Global};
 
@@ -114,113 +117,117 @@ pub fn first_bad_label<D: OrderDomain>(
     None
 }
 
-/// The product of dual list k with row i of the values; both are rows of n symbols.
-fn product<F: Field>(f: &F, n: usize, values: &[u8], duals: &[u8], k: usize, i: usize) -> u8
-    requires few { n ≤ 1024 }
-    requires row { i * n + n ≤ length values.now }
-    requires list { k * n + n ≤ length duals.now }
+/// The products of a list with all functions, whose values stand position by position.
+fn multiply<F: Field>(f: &F, list: &[u8], values: &[u8], products: &mut [u8])
+    requires few { length list.now ≤ 1024 }
+    requires fits { length values.now ≡ length list.now * length products.old }
+    requires list { All (λ x. x < 2 ^ F.bits_of f.now) list.now }
     requires values { All (λ x. x < 2 ^ F.bits_of f.now) values.now }
-    requires duals { All (λ x. x < 2 ^ F.bits_of f.now) duals.now }
-    ensures { result ≡ product_of (F.bits_of f.now) (F.modulus_of f.now) n values.now duals.now k
-        i }
+    ensures products { (i : ℕ) → i < length products.old → slice_index products.new i
+        ≡ combine (gf_mul (F.bits_of f.now) (F.modulus_of f.now)) (length list.now)
+        (slice_index list.now) (cell values.now (length products.old)) i }
 {
-    let list = k * n;
-    let row = i * n;
-    dot(f, &duals[list..list + n], &values[row..row + n])
+    f.bits();
+    let functions = products.len();
+    products.fill(0);
+    for p in 0..list.len() {
+        let row = p * functions;
+        add_scaled(f, products, list[p], &values[row..row + functions]);
+    }
 }
 
-/// Whether dual list k has product 0 with the first rows of the values.
-fn vanishes_before<F: Field>(
-    f: &F,
-    n: usize,
-    values: &[u8],
-    duals: &[u8],
-    k: usize,
-    end: usize,
-) -> bool
-    requires few { n ≤ 1024 }
-    requires rows { end * n ≤ length values.now }
-    requires list { k * n + n ≤ length duals.now }
-    requires values { All (λ x. x < 2 ^ F.bits_of f.now) values.now }
-    requires duals { All (λ x. x < 2 ^ F.bits_of f.now) duals.now }
-    ensures { MatchBool result
-        (VanishesBefore (F.bits_of f.now) (F.modulus_of f.now) n values.now duals.now k end)
-        (VanishesBefore (F.bits_of f.now) (F.modulus_of f.now) n values.now duals.now k end → ⊥) }
+/// Whether the first products are 0.
+fn vanishes_before(products: &[u8], end: usize) -> bool
+    requires { end ≤ length products.now }
+    ensures { MatchBool result ((i : ℕ) → i < end → slice_index products.now i ≡ 0)
+        (((i : ℕ) → i < end → slice_index products.now i ≡ 0) → ⊥) }
 {
     for i in 0..end {
-        if product(f, n, values, duals, k, i) != 0 {
+        if products[i] != 0 {
             return false;
         }
     }
     true
 }
 
-/// Whether dual list k has product 0 with the values of the functions on the later lines.
-fn vanishes_later<F: Field>(f: &F, values: &[u8], duals: &[u8], indices: &[u32], k: usize) -> bool
+/// Whether the products with the functions on the lines after line k are 0.
+fn vanishes_later(products: &[u8], indices: &[u32], k: usize) -> bool
     requires few { length indices.now ≤ 1024 }
     requires line { k < length indices.now }
-    requires rows { (j : ℕ) → j < length indices.now →
-        slice_index indices.now j * length indices.now + length indices.now ≤ length values.now }
-    requires lists { length duals.now ≡ length indices.now * length indices.now }
-    requires values { All (λ x. x < 2 ^ F.bits_of f.now) values.now }
-    requires duals { All (λ x. x < 2 ^ F.bits_of f.now) duals.now }
+    requires functions { (j : ℕ) → j < length indices.now →
+        slice_index indices.now j < length products.now }
     ensures { MatchBool result
-        (VanishesLater (F.bits_of f.now) (F.modulus_of f.now) (length indices.now) values.now
-        duals.now indices.now k)
-        (VanishesLater (F.bits_of f.now) (F.modulus_of f.now) (length indices.now) values.now
-        duals.now indices.now k → ⊥) }
+        ((j : ℕ) → k < j → j < length indices.now →
+        slice_index products.now (slice_index indices.now j) ≡ 0)
+        (((j : ℕ) → k < j → j < length indices.now →
+        slice_index products.now (slice_index indices.now j) ≡ 0) → ⊥) }
 {
-    let n = indices.len();
-    for j in k + 1..n {
-        if product(f, n, values, duals, k, indices[j] as usize) != 0 {
+    for j in k + 1..indices.len() {
+        if products[indices[j] as usize] != 0 {
             return false;
         }
     }
     true
 }
 
-/// Whether the dual list on line k has the products that it should have.
-fn is_good_dual<F: Field>(f: &F, values: &[u8], duals: &[u8], indices: &[u32], k: usize) -> bool
+/// Whether the dual list on line k has the products that it should have. The room is for them.
+fn is_good_dual<F: Field>(
+    f: &F,
+    values: &[u8],
+    duals: &[u8],
+    indices: &[u32],
+    k: usize,
+    products: &mut [u8],
+) -> bool
     requires few { length indices.now ≤ 1024 }
     requires line { k < length indices.now }
-    requires rows { (j : ℕ) → j < length indices.now →
-        slice_index indices.now j * length indices.now + length indices.now ≤ length values.now }
+    requires functions { (j : ℕ) → j < length indices.now →
+        slice_index indices.now j < length products.old }
+    requires fits { length values.now ≡ length indices.now * length products.old }
     requires lists { length duals.now ≡ length indices.now * length indices.now }
     requires values { All (λ x. x < 2 ^ F.bits_of f.now) values.now }
     requires duals { All (λ x. x < 2 ^ F.bits_of f.now) duals.now }
     ensures { MatchBool result
-        (IsDualBy (F.bits_of f.now) (F.modulus_of f.now) (length indices.now) values.now duals.now
-        indices.now k)
-        (IsDualBy (F.bits_of f.now) (F.modulus_of f.now) (length indices.now) values.now duals.now
-        indices.now k → ⊥) }
+        (IsDualBy (F.bits_of f.now) (F.modulus_of f.now) (length indices.now)
+        (length products.old) values.now duals.now indices.now k)
+        (IsDualBy (F.bits_of f.now) (F.modulus_of f.now) (length indices.now)
+        (length products.old) values.now duals.now indices.now k → ⊥) }
 {
     let n = indices.len();
+    multiply(f, &duals[k * n..k * n + n], values, products);
     let index = indices[k] as usize;
-    if !vanishes_before(f, n, values, duals, k, index) {
+    if !vanishes_before(products, index) {
         return false;
     }
-    if product(f, n, values, duals, k, index) != 1 {
+    if products[index] != 1 {
         return false;
     }
-    vanishes_later(f, values, duals, indices, k)
+    vanishes_later(products, indices, k)
 }
 
-/// The first line whose dual list has not the products that it should have.
-pub fn first_bad_dual<F: Field>(f: &F, values: &[u8], duals: &[u8], indices: &[u32]) -> Option<u32>
+/// The first line whose dual list has not the products that it should have. The room is for the products of a list.
+pub fn first_bad_dual<F: Field>(
+    f: &F,
+    values: &[u8],
+    duals: &[u8],
+    indices: &[u32],
+    products: &mut [u8],
+) -> Option<u32>
     requires few { length indices.now ≤ 1024 }
-    requires rows { (j : ℕ) → j < length indices.now →
-        slice_index indices.now j * length indices.now + length indices.now ≤ length values.now }
+    requires functions { (j : ℕ) → j < length indices.now →
+        slice_index indices.now j < length products.old }
+    requires fits { length values.now ≡ length indices.now * length products.old }
     requires lists { length duals.now ≡ length indices.now * length indices.now }
     requires values { All (λ x. x < 2 ^ F.bits_of f.now) values.now }
     requires duals { All (λ x. x < 2 ^ F.bits_of f.now) duals.now }
     ensures { MatchOption result
         (AreGood (length indices.now) (IsDualBy (F.bits_of f.now) (F.modulus_of f.now)
-        (length indices.now) values.now duals.now indices.now))
+        (length indices.now) (length products.old) values.now duals.now indices.now))
         (IsFirstBad (length indices.now) (IsDualBy (F.bits_of f.now) (F.modulus_of f.now)
-        (length indices.now) values.now duals.now indices.now)) }
+        (length indices.now) (length products.old) values.now duals.now indices.now)) }
 {
     for k in 0..indices.len() {
-        if !is_good_dual(f, values, duals, indices, k) {
+        if !is_good_dual(f, values, duals, indices, k, products) {
             return Some(k as u32);
         }
     }

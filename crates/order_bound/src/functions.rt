@@ -40,7 +40,7 @@ fn labels_of<D: OrderDomain>(alloc: Global, dom: &D) -> Result<Vec<u32>, AllocEr
     Ok(labels)
 }
 
-/// The values of all functions at the points, row by row.
+/// The values of all functions at the points, position by position.
 pub fn values_of<F: Field, D: OrderDomain>(
     alloc: Global,
     f: &F,
@@ -50,13 +50,13 @@ pub fn values_of<F: Field, D: OrderDomain>(
     requires bits { F.bits_of f.now ≡ (D.domain dom.now).bits }
     requires few { length points.now ≤ 1024 }
     requires points { ArePoints (D.domain dom.now) (F.modulus_of f.now) points.now }
-    ensures values { IfOk result (λ v. IsGrid (D.domain dom.now).count (length points.now)
-        (value_at (D.domain dom.now) (F.modulus_of f.now) points.now) v.items) }
+    ensures values { IfOk result (λ v. IsGrid (length points.now) (D.domain dom.now).count
+        (λ p i. value_at (D.domain dom.now) (F.modulus_of f.now) points.now i p) v.items) }
     ensures symbols { IfOk result (λ v. All (λ x. x < 2 ^ F.bits_of f.now) v.items) }
 {
-    let mut values = Vec::with_capacity(alloc, dom.count() as usize * points.len())?;
-    for i in 0..dom.count() {
-        for p in 0..points.len() {
+    let mut values = Vec::with_capacity(alloc, points.len() * dom.count() as usize)?;
+    for p in 0..points.len() {
+        for i in 0..dom.count() {
             values.push(dom.eval(f, i, &points[p]))?;
         }
     }

@@ -82,7 +82,8 @@ fn bound_of<F: Field, D: OrderDomain>(
         return Err(Stop::Line(k + 3));
     }
     let values = values_of(alloc, f, dom, points)?;
-    if let Some(k) = first_bad_dual(f, &values, &said.entries.duals, &indices) {
+    let mut products = vec![in alloc; 0u8; functions.labels.len()]?;
+    if let Some(k) = first_bad_dual(f, &values, &said.entries.duals, &indices, &mut products) {
         return Err(Stop::Line(k + 3));
     }
     if !is_good_head(&said) {
