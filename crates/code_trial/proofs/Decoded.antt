@@ -6,7 +6,7 @@ use Rattle.stored_form.specs.Frame.{group_bits, group_bytes}
 use Rattle.stored_form.specs.Reading.{changes}
 use Rattle.ag_io.specs.Views.{GaveFront}
 use Rattle.stream_codec.specs.Report.{sure_bytes}
-use Rattle.stream_codec.specs.Decoding.{Decode, DecodedAs}
+use Rattle.stream_codec.specs.Decoding.{Decode, taken, DecodedAs}
 use Rattle.stream_codec.specs.declared.decode.DecodeCounts.{DecodeCounts}
 use Rattle.stream_codec.specs.declared.decode.DecodeFault.{DecodeFault}
 use Rattle.stream_codec.specs.declared.decode.DecodeFault.TheVariants.{InputFault, OutFault, ReportFault, TooLong, Beyond, Ragged, Framing}
@@ -49,26 +49,27 @@ back_framing : (d : Decode) (x : List ℕ) → IsInMemory d → DecodedAs d (Err
 back_framing d x m dec = ap (read_back_by d.form d.source.left x) (dec.told m.source_tells).reads
 
 -- the other answers cannot come
-no_long : (d : Decode) (taken : ℕ) → IsInMemory d → DecodedAs d (Err (TooLong taken)) → ⊥
-no_long d taken m dec =
-    let (z, p) = dec.told m.source_tells in
-    let e : length d.source.left ≡ length z + length d.source_after.left = ap length p.left ∙ length-append z d.source_after.left in
-    omega (arith, p.passes, m.short)
+no_long : (d : Decode) (count : ℕ) → IsInMemory d → DecodedAs d (Err (TooLong count)) → ⊥
+no_long d count m dec =
+    let p = dec.told m.source_tells in
+    let e : length d.source.left ≡ length (taken d) + length d.source_after.left = ap length p.left ∙ length-append (taken d) d.source_after.left in
+    omega (arith, p.count_is, p.passes, m.short)
 
 no_input_fault : (d : Decode) → IsInMemory d → DecodedAs d (Err InputFault) → ⊥
-no_input_fault d m dec = never_rose (rw (m.source_before, m.source_after) at dec.fault)
+no_input_fault d m dec = never_rose (rw (m.source_before, m.source_after) at dec.fault.1)
 
 no_report_fault : (d : Decode) → IsInMemory d → DecodedAs d (Err ReportFault) → ⊥
-no_report_fault d m dec = never_rose (rw (m.report_before, m.report_after) at dec.fault.0)
+no_report_fault d m dec = never_rose (rw (m.report_before, m.report_after) at dec.fault.1)
 
 no_out_fault : (d : Decode) → IsInMemory d → DecodedAs d (Err OutFault) → ⊥
 no_out_fault d m dec =
-    let (z, w) = dec.told m.source_tells in
+    let z = taken d in
+    let w = dec.told m.source_tells in
     let e : length d.source.left ≡ length z + length d.source_after.left = ap length w.left ∙ length-append z d.source_after.left in
     let part : length d.out_after.given ≤ length (sure_bytes d.form z) =
     part_short d.out_after.given (sure_bytes d.form z) (subst (λ (b : List ℕ). GaveFront b d.out_after.given (sure_bytes d.form z)) m.given (w.out m.out_tells)) in
     let most = sure_short d.form z d.source.left m.sound (omega arith) in
-    let enough : d.out.sure ≤ length d.out_after.given = dec.fault.1 m.out_tells in
+    let enough : d.out.sure ≤ length d.out_after.given = dec.fault.2 m.out_tells in
     omega (arith, m.room)
 
 -- no file came back
@@ -77,7 +78,7 @@ pub back_refused : (d : Decode) (x : List ℕ) (fault : DecodeFault) → Decoded
 back_refused d x (Beyond group word) dec m = back_beyond d x group word m dec
 back_refused d x (Ragged extra) dec m = back_ragged d x extra m dec
 back_refused d x Framing dec m = back_framing d x m dec
-back_refused d x (TooLong taken) dec m = absurd (no_long d taken m dec)
+back_refused d x (TooLong count) dec m = absurd (no_long d count m dec)
 back_refused d x InputFault dec m = absurd (no_input_fault d m dec)
 back_refused d x ReportFault dec m = absurd (no_report_fault d m dec)
 back_refused d x OutFault dec m = absurd (no_out_fault d m dec)

@@ -6,10 +6,11 @@ use Rattle.std.proofs.lemmas.List.Sums.{AllPass-from_list_all}
 use Rattle.std.proofs.lemmas.List.Elements.{All-contains, All-map}
 use Rattle.std.proofs.lemmas.Bool.{or_cases, and_parts, eqb-true, leb-true, ltb-true}
 use Rattle.stored_form.specs.Form.{at_layout, IsSound, IsMessage, IsCodeword, distance}
-use Rattle.stored_form.specs.SmallCode.{small_word, small_messages, small_words, small_form, SmallImages, SmallReadings, SmallOutputs, SmallChanges, SmallEndings, SmallPacked}
+use Rattle.stored_form.specs.SmallCode.{small_word, small_messages, small_words, small_form, SmallImages, SmallReadings, SmallOutputs, SmallChanges, SmallSalvage, SmallPacked}
 use Rattle.stored_form.proofs.SearchLemmas.{all_lists-has, Contains-map, same_from_distance, first_within_iff, one_within}
 use Rattle.stored_form.specs.Frame.{group_blocks, framed, unframed, image}
 use Rattle.stored_form.specs.Reading.{blocks, ending, reading, out, changes}
+use Rattle.stored_form.specs.Salvage.{lines_of_blocks, salvage_out}
 
 pub small_images : SmallImages
 unfolding image framed
@@ -27,9 +28,9 @@ pub small_changes : SmallChanges
 unfolding changes reading ending blocks group_blocks unframed
 small_changes = record { of_two_symbols = refl; of_a_byte_with_high_bits = refl; of_high_bits_alone = refl; of_damaged_pair = refl }
 
-pub small_endings : SmallEndings
-unfolding ending blocks group_blocks unframed
-small_endings = record { of_lost_first_group = refl; of_lost_last_group = refl }
+pub small_salvage : SmallSalvage
+unfolding ending blocks group_blocks unframed salvage_out lines_of_blocks
+small_salvage = record { ending_of_lost_first_group = refl; out_of_lost_first_group = refl; lines_of_lost_first_group = refl; count_of_lost_first_group = refl; ending_of_lost_last_group = refl; out_of_lost_last_group = refl; lines_of_lost_last_group = refl; lines_of_pair = refl }
 
 pub small_packed_texts : SmallPacked
 unfolding changes reading ending blocks group_blocks unframed image framed

@@ -1,8 +1,8 @@
 -- the laws of specs/Laws, each from its lemmas
 use Rattle.std.proofs.Common.{◌+◌, ◌*◌, ◌/◌, ℕ, ◌%◌, ◌<◌, ◌≡◌, ◌⊎◌, length, inl, inr, sym, ap, ◌∙◌, arith}
 use Rattle.stored_form.specs.Frame.{group_bytes, unframed}
-use Rattle.stored_form.specs.Reading.{Ragged}
-use Rattle.stored_form.specs.Laws.{FrameLaw, FillLaw, FillBitsLaw, ValuesLaw, GroupLaw, ImageLaw, FileLaw, ChangeLaw, ListLaw, BeyondLaw, RaggedLaw, FramingLaw, OutLaw, SalvageLaw}
+use Rattle.stored_form.specs.Reading.{Ragged, blocks}
+use Rattle.stored_form.specs.Laws.{FrameLaw, FillLaw, FillBitsLaw, ValuesLaw, GroupLaw, ImageLaw, FileLaw, ChangeLaw, ListLaw, BeyondLaw, RaggedLaw, FramingLaw, OutLaw, SalvageLaw, LostLaw}
 use Rattle.stored_form.proofs.FrameLemmas.{fill_whole, file_bits_iff, framed_from_unframed, unframed-framed, fill_fewest}
 use Rattle.stored_form.proofs.GroupLemmas.{stored_blocks-stored_group, stored_blocks-texts, stored_group-stored_blocks}
 use Rattle.stored_form.proofs.Lists.{times_mod}
@@ -12,7 +12,7 @@ use Rattle.stored_form.proofs.ConverseLemmas.{reading_iff, reading_beyond_iff, r
 use Rattle.stored_form.proofs.DifferenceLemmas.{differences_iff}
 use Rattle.stored_form.proofs.OrderLemmas.{differences_increase}
 use Rattle.stored_form.proofs.DecoderLemmas.{length-whole_bytes, whole_bytes_front}
-use Rattle.stored_form.proofs.SalvageLemmas.{reading_none_lost, out_none_lost, lines_none_lost}
+use Rattle.stored_form.proofs.SalvageLemmas.{reading_none_lost, out_none_lost, lines_none_lost, lost_in-blocks}
 
 pub frame_law : FrameLaw
 frame_law F bits sound whole = record {
@@ -68,6 +68,9 @@ framing_law F z sound = (framing_from_reading F z sound, λ (all, some, whole, n
 
 pub out_law : OutLaw
 out_law F z h sound below = record { long = length-whole_bytes F z h sound below; front = λ g less. whole_bytes_front F z g h less }
+
+pub lost_law : LostLaw
+lost_law F z = lost_in-blocks F (blocks F z)
 
 pub salvage_law : SalvageLaw
 salvage_law F z none = record { reads = reading_none_lost F z none; writes = out_none_lost F z none; tells = lines_none_lost F z none }

@@ -15,6 +15,7 @@
 -- FramingLaw     when a text is read as Framing
 -- OutLaw         how many bytes the corrected bits of h groups make, and that those of fewer groups stand at the front
 -- SalvageLaw     where every codeword has a near, going on past codewords without near reads, writes and tells the same
+-- LostLaw        as many lines of salvage tell of lost codewords as there are
 -- SmallCodeLaw   the small code of specs/SmallCode is sound in groups of every depth and in either layout, so the laws
 --                are met by some code
 -- FramesFile, HasFillBits, KeepsGroups, ChangesListed, OutPart, SalvageSame   what these laws give
@@ -27,7 +28,7 @@ use Rattle.stored_form.specs.Symbols.{symbol_values, stored_size, byte_fill, fil
 use Rattle.stored_form.specs.Frame.{IsFile, group_bits, group_bytes, fill, framed, unframed, image}
 use Rattle.stored_form.specs.Reading.{Beyond, Ragged, Framing, File, group_count, blocks, AllNear, corrected, reading, ending, out, IsNearImage, IsFirstLost, Change, differences, IsDifference, change_number, changes}
 use Rattle.stored_form.specs.SmallCode.{small_form}
-use Rattle.stored_form.specs.Salvage.{Changed, salvage_lines, lost_count, salvage_out}
+use Rattle.stored_form.specs.Salvage.{Changed, salvage_lines, lost_in, lost_count, salvage_out}
 
 pub record FramesFile (F : Form) (bits : List Bool) : Type 0 where
   pub unframes : (x : List ℕ) → (unframed F bits ≡ Some x) ↔ (IsFile x × (bits ≡ framed F x))
@@ -110,6 +111,9 @@ pub record SalvageSame (F : Form) (z : List ℕ) : Type 0 where
 
 abbrev pub SalvageLaw : Type 0
 SalvageLaw = (F : Form) (z : List ℕ) → lost_count F z ≡ 0 → SalvageSame F z
+
+abbrev pub LostLaw : Type 0
+LostLaw = (F : Form) (z : List ℕ) → lost_in (salvage_lines F z) ≡ lost_count F z
 
 abbrev pub SmallCodeLaw : Type 0
 SmallCodeLaw = (depth : ℕ) (packed : Bool) → 0 < depth → IsSound (at_layout depth packed (small_form 1))

@@ -7,12 +7,15 @@
 -- sum_word                        the word of a message of the code of three symbols
 -- sum_form                        three symbols whose sum is 0, packed: six bits, so that a group has two fill bits
 -- damaged_pair                    the image of the empty file in groups of two, with two bytes changed in each codeword
--- SmallImages, SmallReadings, SmallOutputs, SmallChanges, SmallEndings, SmallPacked   texts worked by hand
+-- lost_first                      the image of one byte, with its first group lost
+-- lost_last                       four groups of zeros, and a fifth that is lost
+-- SmallImages, SmallReadings, SmallOutputs, SmallChanges, SmallSalvage, SmallPacked   texts worked by hand
 use Rattle.std.specs.Prelude.{true, false, ℕ, ◌+◌, ◌*◌, ◌≡◌, List, [], ◌∷◌, ◌++◌, map, replicate, slice_index}
 use Rattle.stored_form.specs.Form.{Form, at_layout}
 use Rattle.stored_form.specs.Search.{all_lists, first_within}
 use Rattle.stored_form.specs.Frame.{image}
 use Rattle.stored_form.specs.Reading.{Beyond, Ragged, Framing, File, ending, reading, out, changes}
+use Rattle.stored_form.specs.Salvage.{Changed, Lost, salvage_lines, lost_count, salvage_out}
 
 abbrev pub small_sum : ℕ → ℕ → ℕ
 small_sum a b = slice_index (0 ∷ 1 ∷ 2 ∷ 3 ∷ 1 ∷ 0 ∷ 3 ∷ 2 ∷ 2 ∷ 3 ∷ 0 ∷ 1 ∷ 3 ∷ 2 ∷ 1 ∷ 0 ∷ []) (a * 4 + b)
@@ -73,6 +76,12 @@ sum_form = record {
 abbrev pub damaged_pair : List ℕ
 damaged_pair = 1 ∷ 1 ∷ 0 ∷ 0 ∷ 0 ∷ 0 ∷ 0 ∷ 0 ∷ 3 ∷ 0 ∷ 1 ∷ 0 ∷ 2 ∷ 0 ∷ 0 ∷ 3 ∷ []
 
+abbrev pub lost_first : List ℕ
+lost_first = 1 ∷ 1 ∷ 1 ∷ 0 ∷ 0 ∷ 0 ∷ 0 ∷ 0 ∷ 1 ∷ 2 ∷ 0 ∷ 3 ∷ 0 ∷ 3 ∷ 0 ∷ 3 ∷ []
+
+abbrev pub lost_last : List ℕ
+lost_last = replicate 32 0 ++ (1 ∷ 1 ∷ 1 ∷ 0 ∷ 0 ∷ 0 ∷ 0 ∷ 0 ∷ [])
+
 pub record SmallImages : Type 0 where
   pub of_empty_file : image (small_form 1) [] ≡ 2 ∷ 0 ∷ 0 ∷ 2 ∷ 3 ∷ 1 ∷ 2 ∷ 0 ∷ []
   pub of_one_byte : image (small_form 1) (0x41 ∷ []) ≡ 1 ∷ 0 ∷ 0 ∷ 1 ∷ 2 ∷ 3 ∷ 1 ∷ 0 ∷ 1 ∷ 2 ∷ 0 ∷ 3 ∷ 0 ∷ 3 ∷ 0 ∷ 3 ∷ []
@@ -103,9 +112,17 @@ pub record SmallChanges : Type 0 where
   pub of_damaged_pair : changes (small_form 2) damaged_pair ≡ record { group = 0; word = 0; place = 0; old = 1; new = 2 } ∷ record { group = 0; word = 0; place = 3; old = 0; new = 2 }
       ∷ record { group = 0; word = 1; place = 0; old = 1; new = 0 } ∷ record { group = 0; word = 1; place = 7; old = 3; new = 0 } ∷ []
 
-pub record SmallEndings : Type 0 where
-  pub of_lost_first_group : ending (small_form 1) (1 ∷ 1 ∷ 1 ∷ 0 ∷ 0 ∷ 0 ∷ 0 ∷ 0 ∷ 1 ∷ 2 ∷ 0 ∷ 3 ∷ 0 ∷ 3 ∷ 0 ∷ 3 ∷ []) ≡ File (0x55 ∷ [])
-  pub of_lost_last_group : ending (small_form 1) (replicate 32 0 ++ (1 ∷ 1 ∷ 1 ∷ 0 ∷ 0 ∷ 0 ∷ 0 ∷ 0 ∷ [])) ≡ Framing
+pub record SmallSalvage : Type 0 where
+  pub ending_of_lost_first_group : ending (small_form 1) lost_first ≡ File (0x55 ∷ [])
+  pub out_of_lost_first_group : salvage_out (small_form 1) lost_first ≡ 0x55 ∷ []
+  pub lines_of_lost_first_group : salvage_lines (small_form 1) lost_first ≡ Lost 0 0 ∷ []
+  pub count_of_lost_first_group : lost_count (small_form 1) lost_first ≡ 1
+  pub ending_of_lost_last_group : ending (small_form 1) lost_last ≡ Framing
+  pub out_of_lost_last_group : salvage_out (small_form 1) lost_last ≡ 0 ∷ 0 ∷ 0 ∷ []
+  pub lines_of_lost_last_group : salvage_lines (small_form 1) lost_last ≡ Lost 4 0 ∷ []
+  -- the first codeword of a pair is lost, and the second has one change
+  pub lines_of_pair : salvage_lines (small_form 2) (1 ∷ 1 ∷ 1 ∷ 0 ∷ 1 ∷ 0 ∷ 0 ∷ 0 ∷ 0 ∷ 0 ∷ 0 ∷ 0 ∷ 0 ∷ 0 ∷ 0 ∷ 0 ∷ [])
+      ≡ Lost 0 0 ∷ Changed (record { group = 0; word = 1; place = 0; old = 1; new = 0 }) ∷ []
 
 pub record SmallPacked : Type 0 where
   pub image_of_empty_file : image small_packed [] ≡ 0x82 ∷ 0xd8 ∷ []

@@ -15,7 +15,7 @@ use Rattle.stored_form.proofs.Lists.{whole_pieces-append, whole_pieces_one, whol
 use Rattle.ag_io.specs.Views.{SourceView}
 use Rattle.stream_codec.specs.Slots.{SlotState, blocks_of}
 use Rattle.stream_codec.specs.Layouts.{blocks_at}
-use Rattle.stream_codec.specs.Windows.{TailSays, WindowFilled}
+use Rattle.stream_codec.specs.Windows.{CutShort, TailSays, WindowFilled}
 use Rattle.stream_codec.specs.declared.window.Filling.{Filling}
 use Rattle.stream_codec.specs.declared.window.Tail.{Tail}
 use Rattle.stream_codec.specs.declared.window.Tail.TheVariants.{TooLong}
@@ -70,9 +70,10 @@ pub window_closed : (l : Layout) (tells : Bool) (before after : SourceView) (lef
     IsFilling l tells before.left left1 limit taken slots g total z → (IsTrue tells → left1 ≡ p ++ after.left) → length p ≡ more → more ≤ bytes_in_group l → all ≡ total + more →
     (limit < all → filling ≡ record { groups = g; taken = all; tail = TooLong }) →
     (all ≤ limit → filling ≡ record { groups = g; taken = all; tail = tail }) →
+    (limit < all → CutShort l tells before after p) →
     (all ≤ limit → TailSays l tells before after limit g all p tail) →
     WindowFilled l tells before after limit taken slots filling z p
-window_closed l tells before after left1 limit taken slots g total more all z p filling tail f source long short sum passed within says =
+window_closed l tells before after left1 limit taken slots g total more all z p filling tail f source long short sum passed within cut says =
     elim (cases_lt limit all) [
       | inl over ↦ subst (λ (v : Filling). WindowFilled l tells before after limit taken slots v z p) (sym (passed over)) (record {
         left = λ t. f.left t ∙ ap (λ r. z ++ r) (source t);
@@ -81,7 +82,7 @@ window_closed l tells before after left1 limit taken slots g total more all z p 
         within = omega (arith, f.total_is, f.within);
         slots_fit = f.slots_fit;
         blocks_are = f.blocks;
-        tail = (omega arith, over);
+        tail = (omega arith, over, cut over);
       })
       | inr under ↦ subst (λ (v : Filling). WindowFilled l tells before after limit taken slots v z p) (sym (within under)) (record {
         left = λ t. f.left t ∙ ap (λ r. z ++ r) (source t);

@@ -1,14 +1,14 @@
--- The changes of a block place by place, and those of a group block by block.
-use Rattle.std.proofs.Common.{ℕ, zero, suc, ◌+◌, ◌-◌, ◌*◌, ◌<◌, ◌≤◌, ◌≡◌, ◌≢◌, Bool, true, false, cond, not, nat_eq, List, [], ◌∷◌, ◌++◌, length, map, take, drop, filter, slice_index, get_or, refl, ap, ap₂, sym, ◌∙◌, subst, arith, length-append, append_assoc, suc-add}
+-- The changes of a block place by place.
+use Rattle.std.proofs.Common.{ℕ, zero, suc, ◌+◌, ◌-◌, ◌≤◌, ◌≡◌, ◌≢◌, Bool, true, false, cond, not, nat_eq, List, [], ◌∷◌, ◌++◌, length, map, filter, slice_index, refl, ap, ap₂, sym, ◌∙◌, arith, suc-add}
 use Rattle.std.specs.List.{range_with_len}
-use Rattle.std.proofs.lemmas.List.{append-nil, map-append, length-map, take_more, take-append-drop, length-take-le}
+use Rattle.std.proofs.lemmas.List.{append-nil, map-append, length-map}
 use Rattle.std.proofs.lemmas.List.Elements.{filter-append}
 use Rattle.std.proofs.lemmas.List.Concat.{flat_map-append}
 use Rattle.std.proofs.lemmas.List.FromFn.{length-range_with_len}
 use Rattle.std.proofs.lemmas.Bool.{eq-eqb, ne_eqb}
 use Rattle.stored_form.specs.Reading.{Change}
-use Rattle.stream_codec.specs.Slots.{SlotState, blocks_of, words_of}
-use Rattle.stream_codec.specs.Report.{place_changes, changes_from, change_line, lines_of}
+use Rattle.stream_codec.specs.Report.{change_line, lines_of}
+use Rattle.stream_codec.specs.GroupLines.{place_changes}
 
 abbrev pub change_at : ℕ → ℕ → List ℕ → List ℕ → ℕ → Change
 change_at group word y c p = record { group = group; word = word; place = p; old = slice_index y p; new = slice_index c p }
@@ -81,56 +81,3 @@ lines_of_places n m group word y c below =
       lines_of (later_changes n (m - n) group word y c),
       ap (λ k. lines_of (place_changes k group word y c)) (sym split) ∙ ap lines_of (place_changes_split n (m - n) group word y c) ∙ lines_of-append (place_changes n group word y c) (later_changes n (m - n) group word y c),
     )
-
--- ---- blocks
-pub changes_from-append : (n group word : ℕ) (ys cs ys' cs' : List (List ℕ)) → length ys ≡ length cs → changes_from n group word (ys ++ ys') (cs ++ cs') ≡ changes_from n group word ys cs ++ changes_from n group (word + length ys) ys' cs'
-changes_from-append n group word [] [] ys' cs' long = ap (λ w. changes_from n group w ys' cs') (let e : word ≡ word + 0 = omega arith in e)
-changes_from-append n group word [] (c ∷ cs) ys' cs' long = absurd (omega arith)
-changes_from-append n group word (y ∷ ys) [] ys' cs' long = absurd (omega arith)
-changes_from-append n group word (y ∷ ys) (c ∷ cs) ys' cs' long =
-    let count : word + 1 + length ys ≡ word + length (y ∷ ys) = omega arith in
-    ap (λ l. place_changes n group word y c ++ l) (changes_from-append n group (word + 1) ys cs ys' cs' (omega arith) ∙ ap (λ w. changes_from n group (word + 1) ys cs ++ changes_from n group w ys' cs') count)
-    ∙ sym (append_assoc (place_changes n group word y c) (changes_from n group (word + 1) ys cs) (changes_from n group (word + length (y ∷ ys)) ys' cs'))
-
-pub few_changes : (n group word : ℕ) (ys cs : List (List ℕ)) → length (changes_from n group word ys cs) ≤ length ys * n
-few_changes n group word [] cs = omega arith
-few_changes n group word (y ∷ ys) [] = omega arith
-few_changes n group word (y ∷ ys) (c ∷ cs) = omega (arith, length-append (place_changes n group word y c) (changes_from n group (word + 1) ys cs), few_place_changes n group word y c, few_changes n group (word + 1) ys cs)
-
--- one more slot: the changes so far, and those of all slots
-pub record GroupStep (n group i : ℕ) (slots : List SlotState) (got word : List ℕ) : Type 0 where
-  pub more : changes_from n group 0 (blocks_of (take (i + 1) slots)) (words_of (take (i + 1) slots)) ≡ changes_from n group 0 (blocks_of (take i slots)) (words_of (take i slots)) ++ place_changes n group i got word
-  pub rest : List ℕ
-  pub lines : lines_of (changes_from n group 0 (blocks_of (take (i + 1) slots)) (words_of (take (i + 1) slots))) ≡ lines_of (changes_from n group 0 (blocks_of (take i slots)) (words_of (take i slots))) ++ lines_of (place_changes n group i got word)
-  pub all : lines_of (changes_from n group 0 (blocks_of slots) (words_of slots)) ≡ lines_of (changes_from n group 0 (blocks_of (take (i + 1) slots)) (words_of (take (i + 1) slots))) ++ rest
-  pub few : length (changes_from n group 0 (blocks_of (take i slots)) (words_of (take i slots))) ≤ i * n
-  pub longer : length (changes_from n group 0 (blocks_of (take (i + 1) slots)) (words_of (take (i + 1) slots))) ≡ length (changes_from n group 0 (blocks_of (take i slots)) (words_of (take i slots))) + length (place_changes n group i got word)
-
-pub group_step : (n group i : ℕ) (slots : List SlotState) (s : SlotState) → i < length slots → get_or slots i s ≡ s → GroupStep n group i slots s.got s.word
-group_step n group i slots s below is =
-    let first = take i slots in
-    let ys = blocks_of first in
-    let cs = words_of first in
-    let one_more : take (i + 1) slots ≡ first ++ s ∷ [] = take_more slots i s below ∙ ap (λ (x : SlotState). first ++ x ∷ []) is in
-    let count : length ys ≡ i = length-map first (λ (x : SlotState). x.got) ∙ length-take-le i slots (omega arith) in
-    let same : length ys ≡ length cs = length-map first (λ (x : SlotState). x.got) ∙ sym (length-map first (λ (x : SlotState). x.word)) in
-    let more : changes_from n group 0 (blocks_of (take (i + 1) slots)) (words_of (take (i + 1) slots)) ≡ changes_from n group 0 ys cs ++ place_changes n group i s.got s.word =
-    ap (λ (l : List SlotState). changes_from n group 0 (blocks_of l) (words_of l)) one_more
-    ∙ ap₂ (changes_from n group 0) (map-append (λ (x : SlotState). x.got) first (s ∷ [])) (map-append (λ (x : SlotState). x.word) first (s ∷ []))
-    ∙ changes_from-append n group 0 ys cs (s.got ∷ []) (s.word ∷ []) same
-    ∙ ap (λ (l : List Change). changes_from n group 0 ys cs ++ l) (append-nil (place_changes n group (0 + length ys) s.got s.word) ∙ ap (λ (w : ℕ). place_changes n group w s.got s.word) (let e : 0 + length ys ≡ i = omega arith in e)) in
-    let front = take (i + 1) slots in
-    let back = drop (i + 1) slots in
-    let front_same : length (blocks_of front) ≡ length (words_of front) = length-map front (λ (x : SlotState). x.got) ∙ sym (length-map front (λ (x : SlotState). x.word)) in
-    let split : changes_from n group 0 (blocks_of slots) (words_of slots) ≡ changes_from n group 0 (blocks_of front) (words_of front) ++ changes_from n group (0 + length (blocks_of front)) (blocks_of back) (words_of back) =
-    ap (λ (l : List SlotState). changes_from n group 0 (blocks_of l) (words_of l)) (sym (take-append-drop (i + 1) slots))
-    ∙ ap₂ (changes_from n group 0) (map-append (λ (x : SlotState). x.got) front back) (map-append (λ (x : SlotState). x.word) front back)
-    ∙ changes_from-append n group 0 (blocks_of front) (words_of front) (blocks_of back) (words_of back) front_same in
-    record {
-      more = more;
-      rest = lines_of (changes_from n group (0 + length (blocks_of front)) (blocks_of back) (words_of back));
-      lines = ap lines_of more ∙ lines_of-append (changes_from n group 0 ys cs) (place_changes n group i s.got s.word);
-      all = ap lines_of split ∙ lines_of-append (changes_from n group 0 (blocks_of front) (words_of front)) (changes_from n group (0 + length (blocks_of front)) (blocks_of back) (words_of back));
-      longer = ap length more ∙ length-append (changes_from n group 0 ys cs) (place_changes n group i s.got s.word);
-      few = let h : length (changes_from n group 0 ys cs) ≤ length ys * n = few_changes n group 0 ys cs in subst (λ k. length (changes_from n group 0 ys cs) ≤ k * n) count h;
-    }

@@ -21,8 +21,9 @@ use Rattle.stream_codec.specs.Windows.{WindowState}
 use Rattle.ag_frame.specs.Queues.{OutState}
 use Rattle.ag_io.specs.Views.{SinkView, SourceView}
 use Rattle.stream_codec.specs.Sinks.{sinks_of}
-use Rattle.stream_codec.specs.Dealing.{CountsFit, HoldsGroups, Dealt, TextFault}
-use Rattle.stream_codec.specs.declared.decode.DecodeCounts.{DecodeCounts}
+use Rattle.stream_codec.specs.Dealing.{CountsFit, NoneLost, HoldsGroups, Dealt, TextStopped}
+use Rattle.stream_codec.specs.declared.deal.Tally.{Tally}
+use Rattle.stream_codec.specs.declared.deal.WhenLost.{WhenLost}
 use Rattle.stream_codec.specs.declared.decode.DecodeFault.{DecodeFault}
 use Rattle.stream_codec.proofs.DealtLemmas.{count_is, even_is}
 
@@ -134,16 +135,17 @@ window_holds F numbers l w w2 groups z is same whole fits blocks found ready =
 
 -- ---- window after window
 -- the text z was taken and dealt with
-pub record Decoding (F : Form) (layout : Layout) (source_tells : Bool) (source source1 : SourceView) (ot : Bool) (out out1 : SinkView) (rt : Bool) (report report1 : SinkView) (s : OutState) (counts : DecodeCounts) (limit taken : ℕ) (z : List ℕ) : Type 0 where
-  pub dealt : Dealt (in_groups layout F) (sinks_of ot out out1 rt report report1) s counts z
+pub record Decoding (F : Form) (layout : Layout) (source_tells : Bool) (source source1 : SourceView) (ot : Bool) (out out1 : SinkView) (rt : Bool) (report report1 : SinkView) (s : OutState) (tally : Tally) (when : WhenLost) (limit taken : ℕ) (z : List ℕ) : Type 0 where
+  pub dealt : Dealt (in_groups layout F) (sinks_of ot out out1 rt report report1) s tally z
   pub left : IsTrue source_tells → source.left ≡ z ++ source1.left
   pub taken_is : taken ≡ length z
   pub within : taken ≤ limit
-  pub source_counted : source.faults ≤ source1.faults
-  pub fit : CountsFit counts
+  pub source_steady : source1.faults ≡ source.faults
+  pub none : NoneLost when tally.lost
+  pub fit : CountsFit tally
 
-pub dealt_at : {ot rt : Bool} {out out1 report report1 : SinkView} {s : OutState} {counts : DecodeCounts} {z : List ℕ} (F : Form) (layout layout2 : Layout) → Dealt (in_groups layout F) (sinks_of ot out out1 rt report report1) s counts z → layout ≡ layout2 → Dealt (in_groups layout2 F) (sinks_of ot out out1 rt report report1) s counts z
-dealt_at {ot} {rt} {out} {out1} {report} {report1} {s} {counts} {z} F layout layout2 d e = subst (λ n. Dealt (in_groups n F) (sinks_of ot out out1 rt report report1) s counts z) e d
+pub dealt_at : {ot rt : Bool} {out out1 report report1 : SinkView} {s : OutState} {tally : Tally} {z : List ℕ} (F : Form) (layout layout2 : Layout) → Dealt (in_groups layout F) (sinks_of ot out out1 rt report report1) s tally z → layout ≡ layout2 → Dealt (in_groups layout2 F) (sinks_of ot out out1 rt report report1) s tally z
+dealt_at {ot} {rt} {out} {out1} {report} {report1} {s} {tally} {z} F layout layout2 d e = subst (λ n. Dealt (in_groups n F) (sinks_of ot out out1 rt report report1) s tally z) e d
 
-pub fault_at : (ot rt : Bool) (out out1 report report1 : SinkView) (z w : List ℕ) (fault : DecodeFault) (F : Form) (layout layout2 : Layout) → ((more : List ℕ) → TextFault (in_groups layout F) (sinks_of ot out out1 rt report report1) (z ++ (w ++ more)) fault) → layout ≡ layout2 → (more : List ℕ) → TextFault (in_groups layout2 F) (sinks_of ot out out1 rt report report1) (z ++ (w ++ more)) fault
-fault_at ot rt out out1 report report1 z w fault F layout layout2 h e = subst (λ n. (more : List ℕ) → TextFault (in_groups n F) (sinks_of ot out out1 rt report report1) (z ++ (w ++ more)) fault) e h
+pub stopped_at : (ot rt : Bool) (out out1 report report1 : SinkView) (when : WhenLost) (text : List ℕ) (fault : DecodeFault) (F : Form) (layout layout2 : Layout) → TextStopped (in_groups layout F) (sinks_of ot out out1 rt report report1) when text fault → layout ≡ layout2 → TextStopped (in_groups layout2 F) (sinks_of ot out out1 rt report report1) when text fault
+stopped_at ot rt out out1 report report1 when text fault F layout layout2 h e = subst (λ n. TextStopped (in_groups n F) (sinks_of ot out out1 rt report report1) when text fault) e h

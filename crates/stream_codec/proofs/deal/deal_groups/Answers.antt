@@ -18,6 +18,7 @@ loop-g-init g c =
           let none : take (0 * size) w ≡ [] = ap (λ m. take m w) (let e : 0 * size ≡ 0 = omega arith in e) in
           dealt_as (z ++ take (0 * size) w) d (ap (λ l. z ++ l) none ∙ append-nil z);
       counts = c.requires.counts;
+      none = c.requires.none;
       groups = omega arith;
       size = refl;
       width = refl;
@@ -28,14 +29,14 @@ deal_group-requires-clause-settled g c κs within =
     let F = g.C.BlockCode.form c.args.code.now in
     let (w, h) = c.requires.holds in
     let sound = fits_sound (g.C.BlockCode.form c.args.code.now) c.args.window.now.layout c.requires.fits in
-    subst (All (IsSettled F)) (sym c.slots_of.ensures) (window_group F c.args.window.now c.args.groups c.loop-g.g w c.requires.fits sound c.loop-g-test.true h).settled
+    subst (All (IsSettled F)) (sym c.slots_of-slots.ensures) (window_group F c.args.window.now c.args.groups c.loop-g.g w c.requires.fits sound c.loop-g-test.true h).settled
 
 pub deal_group-requires-clause-size : goal.deal_group-requires-clause-size
 deal_group-requires-clause-size g c κs within =
     let F = g.C.BlockCode.form c.args.code.now in
     let (w, h) = c.requires.holds in
     let sound = fits_sound (g.C.BlockCode.form c.args.code.now) c.args.window.now.layout c.requires.fits in
-    let long = ap length c.slots_of.ensures ∙ (window_group F c.args.window.now c.args.groups c.loop-g.g w c.requires.fits sound c.loop-g-test.true h).slots_long in
+    let long = ap length c.slots_of-slots.ensures ∙ (window_group F c.args.window.now c.args.groups c.loop-g.g w c.requires.fits sound c.loop-g-test.true h).slots_long in
     c.loop-g.invariant.size ∙ c.requires.size ∙ ap₂ (λ a b. a * b) (sym long) c.requires.fits.k
 
 pub returns-in_err-deal_group-clause-dealt : goal.returns-in_err-deal_group-clause-dealt
@@ -50,7 +51,7 @@ returns-in_err-deal_group-clause-dealt g c =
     let sound = fits_sound F l c.requires.fits in
     let at = window_group F c.args.window.now c.args.groups i w c.requires.fits sound c.loop-g-test.true h in
     let rest = drop (i * size + size) w in
-    rw (p.1, p.2) (λ more. group_fault F l _ _ _ _ _ _ _ _ _ _ (z ++ take (i * size) w) (group_at G w i) (rest ++ more) (z ++ (w ++ more)) _ c.in_err-deal_group.field-0.0 sound (c.loop-g.invariant.dealt z w out_first report_first h d) at.long (ap blocks_of c.slots_of.ensures ∙ at.blocks) c.in_err-deal_group.ensures.dealt (cut_text z w (take (i * size) w) (group_at G w i) rest more at.cut))
+    rw (p.1, p.2) (group_fault F l _ _ _ _ _ _ _ _ _ _ _ (z ++ take (i * size) w) (group_at G w i) rest (z ++ w) _ c.in_err-deal_group.field-0.0 sound (c.loop-g.invariant.dealt z w out_first report_first h d) c.loop-g.invariant.none at.long (ap blocks_of c.slots_of-slots.ensures ∙ at.blocks) c.in_err-deal_group.ensures.dealt (cut_text z w (take (i * size) w) (group_at G w i) rest at.cut))
 
 pub loop-g-preserved : goal.loop-g-preserved
 loop-g-preserved g c =
@@ -63,8 +64,9 @@ loop-g-preserved g c =
     record {
       dealt = λ z w out_first report_first h d.
           let at = window_group F c.args.window.now c.args.groups i w c.requires.fits sound c.loop-g-test.true h in
-          dealt_more F l _ _ _ _ _ _ _ _ _ _ _ _ (z ++ take (i * size) w) (group_at G w i) (z ++ take ((i + 1) * size) w) _ sound (c.loop-g.invariant.dealt z w out_first report_first h d) at.long (ap blocks_of c.slots_of.ensures ∙ at.blocks) c.in_ok-deal_group.ensures.dealt (ap (λ (y : List ℕ). z ++ y) at.next ∙ sym (append_assoc z (take (i * size) w) (group_at G w i)));
+          dealt_more F l _ _ _ _ _ _ _ _ _ _ _ _ (z ++ take (i * size) w) (group_at G w i) (z ++ take ((i + 1) * size) w) _ sound (c.loop-g.invariant.dealt z w out_first report_first h d) at.long (ap blocks_of c.slots_of-slots.ensures ∙ at.blocks) c.in_ok-deal_group.ensures.dealt (ap (λ (y : List ℕ). z ++ y) at.next ∙ sym (append_assoc z (take (i * size) w) (group_at G w i)));
       counts = c.in_ok-deal_group.ensures.counts;
+      none = c.in_ok-deal_group.ensures.none;
       groups = search rules;
       size = c.in_ok-deal_group.ensures.size ∙ c.loop-g.invariant.size;
       width = c.in_ok-deal_group.ensures.width ∙ c.loop-g.invariant.width;

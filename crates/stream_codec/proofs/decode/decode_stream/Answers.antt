@@ -1,22 +1,17 @@
-use Rattle.std.proofs.Common.{sym, subst}
-use Rattle.ag_frame.specs.declared.frame.Layout.{Layout}
-use Rattle.stream_codec.specs.Layouts.{Fits}
+use Rattle.stream_codec.proofs.FitLemmas.{fits_sound}
 use Rattle.stream_codec.proofs.DecodedLemmas.{complete_from}
-use Rattle.stream_codec.proofs.RoomLemmas.{room_ready, room_fits}
 use Rattle.stream_codec.proofs.decode.decode_stream.Goals as goal
 
-pub decode_windows-requires-clause-ready : goal.decode_windows-requires-clause-ready
-decode_windows-requires-clause-ready g c κs within =
-    let fits = rw (← c.room.view_is) at c.requires.fits in
-    room_ready (g.C.BlockCode.form c.args.code.now) (g.C.BlockCode.numbers c.args.code.now) c.room.inside.window c.room.inside.writer c.room.invariant fits
+pub returns-in-Ok-clause-decoded : goal.returns-in-Ok-clause-decoded
+returns-in-Ok-clause-decoded g c = (rw c.in-Ok.is at c.decode_room.ensures.run).decoded tt
 
-pub returns-clause-fits : goal.returns-clause-fits
-returns-clause-fits g c =
-    let F = g.C.BlockCode.form c.args.code.now in
-    let fits = rw (← c.room.view_is) at c.requires.fits in
-    room_fits F (g.C.BlockCode.numbers c.args.code.now) c.decode_windows.new.window (subst (λ (l : Layout). Fits l F) (sym c.decode_windows.ensures.layout) fits.layout) c.decode_windows.ensures.ready
+pub returns-in-Ok-clause-complete : goal.returns-in-Ok-clause-complete
+returns-in-Ok-clause-complete g c =
+    complete_from _ _ (fits_sound (g.C.BlockCode.form c.args.code.now) c.args.room.now.layout c.requires.fits.layout) ((rw c.in-Ok.is at c.decode_room.ensures.run).decoded tt)
 
-pub returns-clause-complete : goal.returns-clause-complete
-returns-clause-complete g c =
-    let complete = complete_from _ c.decode_windows.result c.decode_windows.ensures.decoded in
-    rw (← c.room.view_is) complete
+pub returns-in-Err-clause-decoded : goal.returns-in-Err-clause-decoded
+returns-in-Err-clause-decoded g c = (rw c.in-Err.is at c.decode_room.ensures.run).decoded tt
+
+pub returns-in-Err-clause-complete : goal.returns-in-Err-clause-complete
+returns-in-Err-clause-complete g c =
+    complete_from _ _ (fits_sound (g.C.BlockCode.form c.args.code.now) c.args.room.now.layout c.requires.fits.layout) ((rw c.in-Err.is at c.decode_room.ensures.run).decoded tt)

@@ -1,7 +1,8 @@
 use Rattle.std.proofs.Common.{◌≡◌, ◌+◌, ◌++◌, List, [], ◌∷◌, ℕ, length, length-append, refl, sym, ap, ◌∙◌, arith}
 use Rattle.std.proofs.lemmas.List.{append-nil}
 use Rattle.std.proofs.lemmas.Result.{err_from_is_err_and}
-use Rattle.stream_codec.specs.Report.{place_changes, change_line, lines_of}
+use Rattle.stream_codec.specs.Report.{change_line, lines_of}
+use Rattle.stream_codec.specs.GroupLines.{place_changes}
 use Rattle.ag_io.proofs.Writes.{all_waits, all_but_more, all_but_some, behind}
 use Rattle.stream_codec.proofs.ReportLemmas.{change_at, lines_of_new, lines_of_places, few_place_changes, place_changes_same, place_changes_new}
 use Rattle.stream_codec.proofs.report.tell_block.Goals as goal

@@ -1,7 +1,8 @@
 -- The changes so far were told, or their lines wait.
 use Rattle.std.proofs.Common.{◌≡◌, ◌++◌, length}
 use Rattle.ag_io.specs.Puts.{WroteAllBut}
-use Rattle.stream_codec.specs.Report.{place_changes, lines_of}
+use Rattle.stream_codec.specs.Report.{lines_of}
+use Rattle.stream_codec.specs.GroupLines.{place_changes}
 use Rattle.stream_codec.proofs.report.tell_block.Given as goal
 
 abbrev pub invariant-loop-p : goal.invariant-loop-p

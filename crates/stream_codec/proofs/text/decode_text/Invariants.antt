@@ -2,14 +2,14 @@
 use Rattle.std.proofs.Common.{ℕ, ◌≡◌, ◌-◌, List, All}
 use Rattle.stream_codec.specs.Slots.{CanDecode}
 use Rattle.stream_codec.proofs.WindowGroups.{Decoding}
-use Rattle.stream_codec.proofs.decode.decode_windows.Given as goal
+use Rattle.stream_codec.proofs.text.decode_text.Given as goal
 
 abbrev pub invariant-windows : goal.invariant-windows
 invariant-windows g l = record {
   decoding : (z : List ℕ) × Decoding (g.C.BlockCode.form l.code) l.initial.window.layout g.I.Source.tells (g.I.Source.view l.initial.src) (g.I.Source.view l.src)
       g.O.Sink.tells (g.O.Sink.view l.initial.sink) (g.O.Sink.view l.sink)
       g.R.Sink.tells (g.R.Sink.view l.initial.report) (g.R.Sink.view l.report)
-      l.writer l.counts l.limit l.taken z;
+      l.writer l.tally l.when_lost l.limit l.taken z;
   layout : l.window.layout ≡ l.initial.window.layout;
   ready : All (CanDecode (g.C.BlockCode.form l.code) (g.C.BlockCode.numbers l.code)) l.window.slots;
   size : l.writer.size ≡ l.initial.writer.size;
