@@ -1,13 +1,11 @@
 -- BenchState    what contracts see of a bench: what it keeps of its code, and the ledger
 -- is_near       whether a verdict names a codeword
--- FitsLocator   a locator is for lists of the length and the symbols of a voter
--- PartsFit      what holds of the parts of a bench: the locator fits, and the room for a message is as long as a codeword
+-- PartsFit      what holds of the parts of a bench: the room for a message is as long as a codeword
 -- state_of      the state of a bench with this voter: the voter's ledger where it is told, and else none
 use Rattle.std.specs.Prelude.{◌≡◌, ℕ, Bool, true, false, cond, List, []}
 use Rattle.coded_block.specs.Codes.{BenchNumbers}
 use Rattle.coded_block.specs.declared.Verdict.{Verdict}
 use Rattle.coded_block.specs.declared.Verdict.TheVariants.{Near, Beyond}
-use Rattle.error_locator.specs.Rooms.{LocatorState}
 use Rattle.vote_core.specs.declared.ledger.VoteLine.{VoteLine}
 use Rattle.vote_core.specs.Voters.{VoterState}
 
@@ -19,11 +17,7 @@ abbrev pub is_near : Verdict → Bool
 is_near (Near changes) = true
 is_near Beyond = false
 
-abbrev pub FitsLocator : LocatorState → VoterState → Type 0
-FitsLocator l v = l ≡ record { bits = v.bits; n = v.n }
-
-pub record PartsFit (l : LocatorState) (v : VoterState) (room : ℕ) : Type 0 where
-  pub locator_fits : FitsLocator l v
+pub record PartsFit (v : VoterState) (room : ℕ) : Type 0 where
   pub room_long : room ≡ v.n
 
 abbrev pub state_of : VoterState → Bool → BenchState

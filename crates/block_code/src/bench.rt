@@ -10,7 +10,7 @@ ghost use Rattle.block_code.specs.Decoding.{IsVerdict, ledger_after};
 use crate::code::Code;
 use crate::correction::{find_near, repair_near};
 use coded_block::Verdict;
-use error_locator::Locator;
+use error_guess::Guess;
 use gf_field::Field;
 use std::alloc::{AllocError, Global};
 use std::marker::Model;
@@ -20,7 +20,7 @@ use vote_core::{VoteLine, Voter};
 #[derive(Drop)]
 pub struct Bench {
     voter: Voter,
-    locator: Locator,
+    guess: Guess,
     // room for a message
     msg: Vec<u8>,
     // whether the last block was near a codeword, and its ledger was asked for
@@ -37,7 +37,7 @@ impl Model for Bench {
 
     ghost view = { λ s. state_of s.voter s.told };
 
-    ghost invariant = { λ s. PartsFit s.locator s.voter (length s.msg.items) };
+    ghost invariant = { λ s. PartsFit s.voter (length s.msg.items) };
 }
 
 fn is_near(verdict: Verdict) -> bool
@@ -55,10 +55,10 @@ impl Bench {
         ensures { IfOk result (λ b. b ≡ record { numbers = numbers_of code.now; ledger = [] }) }
     {
         let voter = Voter::new(alloc, code.basis(), code.checked(), code.radius())?;
-        let locator = Locator::new(alloc, code.basis(), code.radius())?;
+        let guess = Guess::new(alloc, code.outline(), code.radius())?;
         Ok(Bench {
             voter,
-            locator,
+            guess,
             msg: vec![in alloc; 0; code.n() as usize]?,
             told: false,
         })
@@ -110,7 +110,7 @@ impl Bench {
         self.told = false;
         repair_near(
             &mut self.voter,
-            &mut self.locator,
+            &mut self.guess,
             &mut self.msg,
             code,
             got,

@@ -15,6 +15,7 @@ ghost use Rattle.block_code.specs.Decoding.{IsVerdict, ledger_after};
 use crate::bench::Bench;
 use ag_pool::Workers;
 use coded_block::Verdict;
+use error_guess::Outline;
 use eval_basis::{CheckRule, Checked, EvalBasis};
 use gf_field::Field;
 use order_bound::bound;
@@ -51,6 +52,7 @@ pub struct Code<F: Field> {
     basis: EvalBasis<F>,
     checked: Checked,
     parity: Parity,
+    outline: Outline,
     bound: u32,
     radius: u32,
 }
@@ -116,10 +118,12 @@ impl<F: Field> Code<F> {
         };
         let parity = Parity::build(alloc, &basis, &checked)?;
         let radius = radius_of(least);
+        let outline = Outline::new(alloc, &basis, &checked, parity.places())?;
         Ok(Code {
             basis,
             checked,
             parity,
+            outline,
             bound: least,
             radius,
         })
@@ -187,6 +191,11 @@ impl<F: Field> Code<F> {
         &self.parity
     }
 
+    // What guesses need of it.
+    pub(crate) fn outline(&self) -> &Outline {
+        &self.outline
+    }
+
     /// The field of the basis.
     pub fn field(&self) -> &F
         ensures bits { F.bits_of result.now ≡ self.now.basis.bits }
@@ -224,7 +233,7 @@ impl<F: Field> Code<F> {
     }
 
     /// As `decode_block`, but no ledger is made: the bench has none afterwards. It costs in proportion to the error, but
-    /// for the rare errors that it takes a vote to find.
+    /// for errors that it takes a vote to find.
     pub fn repair_block(&self, bench: &mut Bench, got: &[u8], word: &mut [u8]) -> Verdict
         requires fits { bench.old.numbers ≡ numbers_of self.now }
         requires received { length got.now ≡ self.now.basis.n }

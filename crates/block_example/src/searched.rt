@@ -6,7 +6,6 @@ ghost use Rattle.block_code.specs.Compiled.{numbers_of};
 use crate::rig::{decode, made, points};
 use block_code::{Bench, Code, Verdict};
 use cab_curve::Point;
-use error_locator::Locator;
 use eval_basis::CheckRule;
 use gf_field::Field;
 use search_decoder::near_by_search;
@@ -47,8 +46,8 @@ fn search<F: Field>(code: &Code<F>, got: &[u8], word: &mut [u8]) -> Verdict
     }
 }
 
-// Repairs a block, and tells no more of it than the verdict.
-fn repair<F: Field>(code: &Code<F>, bench: &mut Bench, got: &[u8], word: &mut [u8]) -> Verdict
+/// Repairs a block, and tells no more of it than the verdict.
+pub fn repair<F: Field>(code: &Code<F>, bench: &mut Bench, got: &[u8], word: &mut [u8]) -> Verdict
     requires fits { bench.old.numbers ≡ numbers_of code.now }
     requires received { length got.now ≡ code.now.basis.n }
     requires positions { length word.old ≡ code.now.basis.n }
@@ -209,53 +208,4 @@ fn decodes_as_the_search_does(rt: HostRuntime) {
     for (points, rule, sent, radius, count) in rows {
         assert!(rt; agreed(&rt, alloc, points, rule, sent, radius) == Some(count));
     }
-}
-
-// Whether the locator finds the error of a block.
-fn is_located<F: Field>(code: &Code<F>, locator: &mut Locator, got: &[u8], err: &mut [u8]) -> bool
-    requires fits { locator.old ≡ record { bits = code.now.basis.bits; n = code.now.basis.n } }
-    requires received { length got.now ≡ code.now.basis.n }
-    requires room { length err.old ≡ code.now.basis.n }
-    ensures { locator.new ≡ record { bits = code.now.basis.bits; n = code.now.basis.n } }
-{
-    let t = code.radius();
-    locator.locate(code.basis(), code.checked(), t, got, err)
-}
-
-// How many errors of at most one symbol on a codeword are located.
-fn located_with<F: Field>(code: &Code<F>, locator: &mut Locator, sent: [u8; 8]) -> u32
-    requires fits { locator.old ≡ record { bits = code.now.basis.bits; n = code.now.basis.n } }
-    requires long { code.now.basis.n ≡ 8 }
-{
-    let mut got = [0; 8];
-    let mut err = [0; 8];
-    let mut count: u32 = 0;
-    for error in 0..1u32 << 16 {
-        if weight_of(error) <= 1 {
-            damage(&sent, error, &mut got);
-            count = count.wrapping_add(u32::from(is_located(code, locator, &got, &mut err)));
-        }
-    }
-    count
-}
-
-fn located_by<F: Field>(alloc: Global, code: &Code<F>, sent: [u8; 8]) -> Option<u32> {
-    if code.n() != 8 {
-        return None;
-    }
-    let mut locator = Locator::new(alloc, code.basis(), code.radius()).ok()?;
-    Some(located_with(code, &mut locator, sent))
-}
-
-// The same by the code at all points where labels up to 5 are checked.
-fn located<X: Threads + Sync>(rt: &X, alloc: Global, sent: [u8; 8]) -> Option<u32> {
-    let code = made(rt, alloc, &points(), CheckRule::AtMost { weight: 5 })?;
-    located_by(alloc, &code, sent)
-}
-
-// One wrong symbol is at a zero of the function x - a, where a is its first coordinate, and one point more has that
-// coordinate; at two points with different second coordinates the checked functions 1 and y tell both symbols.
-#[test]
-fn locates_each_error_of_one_symbol(rt: HostRuntime) {
-    assert!(rt; located(&rt, rt.alloc(), [2, 0, 0, 2, 3, 1, 2, 0]) == Some(1 + 24));
 }

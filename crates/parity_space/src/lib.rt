@@ -7,6 +7,7 @@
 #![tactic(auto)]
 
 mod preparing;
+mod tails;
 
 ghost use Rattle.std.specs.Prelude.{◌≡◌, ℕ, ◌+◌, ◌<◌, ◌≤◌, ◌^◌, ◌↔◌, List, length, slice_index, count_by, IfOk, IsTrue, All, Contains};
 ghost use Rattle.std.specs.List.Sorted.{IsStrictlyIncreasing};

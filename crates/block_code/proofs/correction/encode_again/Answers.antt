@@ -20,3 +20,8 @@ encode_block-requires-clause-message g c =
 
 pub returns-clause-codeword : goal.returns-clause-codeword
 returns-clause-codeword g c = codeword_of c.args.code.now c.n.ensures.made c.take_places.new.msg c.encode_block.new.word c.encode_block.ensures.word
+
+pub returns-clause-message : goal.returns-clause-message
+returns-clause-message g c =
+    message_is c.args.code.now c.n.ensures.made c.args.got.now c.requires.received c.bits.result c.write_low_bits.new.word c.write_low_bits.ensures c.bits.ensures c.places.result.now c.take_places.new.msg
+    (c.places.ensures.places ∙ ap (λ (v : ParityChecks). message_places v) c.parity.ensures) c.take_places.ensures

@@ -1,0 +1,5 @@
+use Rattle.std.proofs.Common.{◌<◌, ◌^◌, All}
+use Rattle.error_guess.proofs.system.add_solution.Given as goal
+
+abbrev pub invariant-loop-q : goal.invariant-loop-q
+invariant-loop-q g l = All (λ x. x < 2 ^ g.F.Field.bits_of l.f) l.msg

@@ -1,0 +1,4 @@
+pub mod Rows
+pub mod Echelons
+pub mod Outlines
+pub mod Rooms

@@ -1,4 +1,0 @@
-pub mod Rows
-pub mod Syndromes
-pub mod Rooms
-pub mod Additions
