@@ -179,17 +179,17 @@ module _ (size n : ℕ) (entries : List Entry) (c : Entries) (cols : AreColumns 
       indices_found good k l = omega (arith, (good.each k l).found, are.labels_are.long)
 
     -- ---- dual lists
-    module _ (modulus : ℕ) (points : List Point) (values : List ℕ) (grid : IsGrid (length points) d.count (λ p i. value_at d modulus points i p) values) (n_points : n ≡ length points)
-        (found : (k : ℕ) → k < n → slice_index indices k < d.count) where
-      product_is : (k i : ℕ) → k < n → i < d.count → product_of d.bits modulus n d.count values c.duals.items k i ≡ dual_product d modulus points entries k i
+    module _ (modulus : ℕ) (points : List Point) (end : ℕ) (values : List ℕ) (grid : IsGrid (length points) end (λ p i. value_at d modulus points i p) values) (n_points : n ≡ length points)
+        (above : (k : ℕ) → k < n → slice_index indices k < end) (found : (k : ℕ) → k < n → slice_index indices k < d.count) where
+      product_is : (k i : ℕ) → k < n → i < end → product_of d.bits modulus n end values c.duals.items k i ≡ dual_product d modulus points entries k i
       product_is k i l li =
-          sum-same n (λ p. gf_mul d.bits modulus (slice_index (slice_range c.duals.items (k * n) (k * n + n)) p) (slice_index values (p * d.count + i))) (λ p. gf_mul d.bits modulus (slice_index (entry_at entries k).dual p) (value_at d modulus points i p))
+          sum-same n (λ p. gf_mul d.bits modulus (slice_index (slice_range c.duals.items (k * n) (k * n + n)) p) (slice_index values (p * end + i))) (λ p. gf_mul d.bits modulus (slice_index (entry_at entries k).dual p) (value_at d modulus points i p))
           (λ p lp.
-          ap (λ (z : List ℕ). gf_mul d.bits modulus (slice_index z p) (slice_index values (p * d.count + i))) (dual_is k l)
+          ap (λ (z : List ℕ). gf_mul d.bits modulus (slice_index z p) (slice_index values (p * end + i))) (dual_is k l)
           ∙ ap (λ (x : ℕ). gf_mul d.bits modulus (slice_index (entry_at entries k).dual p) x) (grid.entries p i (omega arith) li))
           ∙ ap (λ (m : ℕ). dot (gf_mul d.bits modulus) m (slice_index (entry_at entries k).dual) (value_at d modulus points i)) n_points
 
-      pub dual_from : (k : ℕ) → k < n → IsDualBy d.bits modulus n d.count values c.duals.items indices k → IsGoodDual d modulus points entries k
+      pub dual_from : (k : ℕ) → k < n → IsDualBy d.bits modulus n end values c.duals.items indices k → IsGoodDual d modulus points entries k
       dual_from k l h = record {
         before = λ i li less.
             let up : i < slice_index indices k = elim (cases_lt i (slice_index indices k)) [
@@ -199,23 +199,27 @@ module _ (size n : ℕ) (entries : List Entry) (c : Entries) (cols : AreColumns 
                 | inr other ↦ absurd (omega (arith, are.lawful.labels_rise (slice_index indices k) i (omega arith) li, (found_is k l (found k l)).is))
               ]
             ] in
-            sym (product_is k i l li) ∙ h.before.each i up;
-        own = λ i x. sym (product_is k i l x.below) ∙ ap (product_of d.bits modulus n d.count values c.duals.items k) (only_is k i l (found k l) x) ∙ h.own;
+            let a : slice_index indices k < end = above k l in
+            sym (product_is k i l (omega arith)) ∙ h.before.each i up;
+        own = λ i x. let e : i ≡ slice_index indices k = only_is k i l (found k l) x in let a : slice_index indices k < end = above k l in sym (product_is k i l (omega arith)) ∙ ap (product_of d.bits modulus n end values c.duals.items k) (only_is k i l (found k l) x) ∙ h.own;
         later = λ j i less lj x.
             let below : j < n = omega arith in
-            sym (product_is k i l x.below) ∙ ap (product_of d.bits modulus n d.count values c.duals.items k) (only_is j i below (found j below) x) ∙ h.later.each j less below;
+            let e : i ≡ slice_index indices j = only_is j i below (found j below) x in
+            let a : slice_index indices j < end = above j below in
+            sym (product_is k i l (omega arith)) ∙ ap (product_of d.bits modulus n end values c.duals.items k) e ∙ h.later.each j less below;
       }
 
-      pub dual_to : (k : ℕ) → k < n → IsGoodDual d modulus points entries k → IsDualBy d.bits modulus n d.count values c.duals.items indices k
+      pub dual_to : (k : ℕ) → k < n → IsGoodDual d modulus points entries k → IsDualBy d.bits modulus n end values c.duals.items indices k
       dual_to k l g = record {
         before = record {
           each = λ i less.
               let f : slice_index indices k < d.count = found k l in
               let low : d.label i < d.label (slice_index indices k) = are.lawful.labels_rise i (slice_index indices k) less f in
+              let a : slice_index indices k < end = above k l in
               product_is k i l (omega arith) ∙ g.before i (omega arith) (omega (arith, (found_is k l f).is));
         };
-        own = product_is k (slice_index indices k) l (found k l) ∙ g.own (slice_index indices k) (found_is k l (found k l));
-        later = record { each = λ j less below. product_is k (slice_index indices j) l (found j below) ∙ g.later j (slice_index indices j) less (omega arith) (found_is j below (found j below)) };
+        own = product_is k (slice_index indices k) l (above k l) ∙ g.own (slice_index indices k) (found_is k l (found k l));
+        later = record { each = λ j less below. product_is k (slice_index indices j) l (above j below) ∙ g.later j (slice_index indices j) less (omega arith) (found_is j below (found j below)) };
       }
 
 -- ---- first lines that fail

@@ -57,25 +57,28 @@ module _ (d : Domain) (modulus : ℕ) (points : List Point) (rule : CheckRule) (
     found : (k : ℕ) → k < length points → slice_index indices k < d.count
     found = indices_found (2 ^ d.bits) (length points) r.entries cols r.are_columns r.lines.forms r.n_entries d functions are indices at rule good_here
 
-    module _ (bits : ℕ) (e_bits : bits ≡ d.bits) (values : List ℕ) (grid : IsGrid (length points) d.count (λ p i. value_at d modulus points i p) values) where
-      pub values_fit : length values ≡ length indices * d.count
-      values_fit = grid.long ∙ ap (λ (x : ℕ). x * d.count) (sym n_is)
+    pub functions_within : (j : ℕ) → j < length indices → slice_index indices j < d.count
+    functions_within j l = found j (omega (arith, n_is))
 
-      pub functions_within : (j : ℕ) → j < length indices → slice_index indices j < d.count
-      functions_within j l = found j (omega (arith, n_is))
+    module _ (bits : ℕ) (e_bits : bits ≡ d.bits) (end : ℕ) (before_end : (j : ℕ) → j < length indices → slice_index indices j < end) (values : List ℕ) (grid : IsGrid (length points) end (λ p i. value_at d modulus points i p) values) where
+      above : (k : ℕ) → k < length points → slice_index indices k < end
+      above k l = before_end k (omega (arith, n_is))
 
-      pub dual_refused : (k : ℕ) → IsFirstBad (length indices) (IsDualBy bits modulus (length indices) d.count values cols.duals.items indices) k → IsRefused d modulus points rule text (k + 3)
+      pub values_fit : length values ≡ length indices * end
+      values_fit = grid.long ∙ ap (λ (x : ℕ). x * end) (sym n_is)
+
+      pub dual_refused : (k : ℕ) → IsFirstBad (length indices) (IsDualBy bits modulus (length indices) end values cols.duals.items indices) k → IsRefused d modulus points rule text (k + 3)
       dual_refused k h = bad_dual checked bound r.entries k said labels_good
           (first_bad (length points) k _ (IsGoodDual d modulus points r.entries)
-          (dual_from (2 ^ d.bits) (length points) r.entries cols r.are_columns r.lines.forms r.n_entries d functions are indices at modulus points values grid refl found)
-          (dual_to (2 ^ d.bits) (length points) r.entries cols r.are_columns r.lines.forms r.n_entries d functions are indices at modulus points values grid refl found)
-          (subst (λ (n : ℕ). IsFirstBad n (IsDualBy d.bits modulus n d.count values cols.duals.items indices) k) n_is (subst (λ (b : ℕ). IsFirstBad (length indices) (IsDualBy b modulus (length indices) d.count values cols.duals.items indices) k) e_bits h)))
+          (dual_from (2 ^ d.bits) (length points) r.entries cols r.are_columns r.lines.forms r.n_entries d functions are indices at modulus points end values grid refl above found)
+          (dual_to (2 ^ d.bits) (length points) r.entries cols r.are_columns r.lines.forms r.n_entries d functions are indices at modulus points end values grid refl above found)
+          (subst (λ (n : ℕ). IsFirstBad n (IsDualBy d.bits modulus n end values cols.duals.items indices) k) n_is (subst (λ (b : ℕ). IsFirstBad (length indices) (IsDualBy b modulus (length indices) end values cols.duals.items indices) k) e_bits h)))
 
-      module _ (duals : AreGood (length indices) (IsDualBy bits modulus (length indices) d.count values cols.duals.items indices)) where
+      module _ (duals : AreGood (length indices) (IsDualBy bits modulus (length indices) end values cols.duals.items indices)) where
         duals_good : AreGood (length points) (IsGoodDual d modulus points r.entries)
         duals_good = all_good (length points) _ (IsGoodDual d modulus points r.entries)
-            (dual_from (2 ^ d.bits) (length points) r.entries cols r.are_columns r.lines.forms r.n_entries d functions are indices at modulus points values grid refl found)
-            (subst (λ (n : ℕ). AreGood n (IsDualBy d.bits modulus n d.count values cols.duals.items indices)) n_is (subst (λ (b : ℕ). AreGood (length indices) (IsDualBy b modulus (length indices) d.count values cols.duals.items indices)) e_bits duals))
+            (dual_from (2 ^ d.bits) (length points) r.entries cols r.are_columns r.lines.forms r.n_entries d functions are indices at modulus points end values grid refl above found)
+            (subst (λ (n : ℕ). AreGood n (IsDualBy d.bits modulus n end values cols.duals.items indices)) n_is (subst (λ (b : ℕ). AreGood (length indices) (IsDualBy b modulus (length indices) end values cols.duals.items indices)) e_bits duals))
 
         pub head_refused : (IsHeadBy checked bound cols.pairs.items cols.marks.items → ⊥) → IsRefused d modulus points rule text 2
         head_refused bad = bad_head checked bound r.entries said labels_good duals_good

@@ -41,6 +41,19 @@ pub fn indices_of(alloc: Global, labels: &[u32], said: &[u64]) -> Result<Vec<u32
     Ok(indices)
 }
 
+/// The number of functions up to the last of these.
+pub fn end_of(indices: &[u32], count: u32) -> u32
+    requires { (j : ℕ) → j < length indices.now → slice_index indices.now j < count }
+    ensures above { (j : ℕ) → j < length indices.now → slice_index indices.now j < result }
+    ensures within { result ≤ count }
+{
+    let mut end = 0;
+    for j in 0..indices.len() {
+        end = end.max(indices[j] + 1);
+    }
+    end
+}
+
 /// Whether label k is above the one before it.
 fn rises(labels: &[u64], k: usize) -> bool
     requires { k < length labels.now }

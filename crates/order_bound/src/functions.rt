@@ -40,23 +40,25 @@ fn labels_of<D: OrderDomain>(alloc: Global, dom: &D) -> Result<Vec<u32>, AllocEr
     Ok(labels)
 }
 
-/// The values of all functions at the points, position by position.
+/// The values of the functions before `end` at the points, position by position.
 pub fn values_of<F: Field, D: OrderDomain>(
     alloc: Global,
     f: &F,
     dom: &D,
     points: &[Point],
+    end: u32,
 ) -> Result<Vec<u8>, AllocError>
     requires bits { F.bits_of f.now ≡ (D.domain dom.now).bits }
     requires few { length points.now ≤ 1024 }
     requires points { ArePoints (D.domain dom.now) (F.modulus_of f.now) points.now }
-    ensures values { IfOk result (λ v. IsGrid (length points.now) (D.domain dom.now).count
+    requires functions { end ≤ (D.domain dom.now).count }
+    ensures values { IfOk result (λ v. IsGrid (length points.now) end
         (λ p i. value_at (D.domain dom.now) (F.modulus_of f.now) points.now i p) v.items) }
     ensures symbols { IfOk result (λ v. All (λ x. x < 2 ^ F.bits_of f.now) v.items) }
 {
-    let mut values = Vec::with_capacity(alloc, points.len() * dom.count() as usize)?;
+    let mut values = Vec::with_capacity(alloc, points.len() * end as usize)?;
     for p in 0..points.len() {
-        for i in 0..dom.count() {
+        for i in 0..end {
             values.push(dom.eval(f, i, &points[p]))?;
         }
     }

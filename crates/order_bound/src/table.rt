@@ -9,7 +9,7 @@ ghost use Rattle.order_bound.specs.Checking.{AreFunctions};
 ghost use Rattle.order_bound.specs.Reading.{OnLine};
 ghost use Rattle.order_bound.specs.TableChecks.{IsAccepted, IsRefused, Says, SaysOfTable};
 
-use crate::checks::{first_bad_dual, first_bad_label, indices_of, is_good_head};
+use crate::checks::{end_of, first_bad_dual, first_bad_label, indices_of, is_good_head};
 use crate::functions::{Functions, functions_of, values_of};
 use crate::reader::{Stop, read_table};
 use eval_basis::CheckRule;
@@ -81,8 +81,9 @@ fn bound_of<F: Field, D: OrderDomain>(
     if let Some(k) = first_bad_label(dom, functions, rule, &said.entries, &indices) {
         return Err(Stop::Line(k + 3));
     }
-    let values = values_of(alloc, f, dom, points)?;
-    let mut products = vec![in alloc; 0u8; functions.labels.len()]?;
+    let end = end_of(&indices, dom.count());
+    let values = values_of(alloc, f, dom, points, end)?;
+    let mut products = vec![in alloc; 0u8; end as usize]?;
     if let Some(k) = first_bad_dual(f, &values, &said.entries.duals, &indices, &mut products) {
         return Err(Stop::Line(k + 3));
     }
