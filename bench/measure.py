@@ -3,6 +3,7 @@
 import os
 import pathlib
 import random
+import re
 import shutil
 import subprocess
 import sys
@@ -11,23 +12,31 @@ import time
 from dataclasses import dataclass
 
 ROOT = pathlib.Path(__file__).resolve().parent.parent
-PROGRAM = ROOT / "crates/agcode_cli/out/agcode_cli"
+PROGRAM = pathlib.Path(os.environ.get("PROGRAM", ROOT / "crates/agcode_cli/out/agcode_cli")).resolve()
 GNU_TIME = "/usr/bin/time"
 
 
 @dataclass(frozen=True)
 class Code:
-    """A descriptor of examples/: its positions, codewords of a group, field and bytes of message in a group."""
+    """A descriptor: its positions, codewords of a group, field, bytes of message in a group, and bits of a stored symbol."""
 
     file: pathlib.Path
     positions: int
     depth: int
     symbols: int
     message: int
+    width: int = 8
+
+    @property
+    def group(self):
+        """The bytes of a group."""
+        return -(-self.positions * self.depth * self.width // 8)
 
 
 LARGE = Code(ROOT / "examples/hermitian-64.toml", 512, 4, 64, 852)
+PACKED = Code(ROOT / "examples/hermitian-64-packed.toml", 512, 4, 64, 852, 6)
 MIDDLE = Code(ROOT / "examples/hermitian-16.toml", 64, 1, 16, 19)
+WIDE = Code(ROOT / "examples/hermitian-256.toml", 1024, 1, 256, 504)
 
 
 @dataclass(frozen=True)
@@ -121,17 +130,32 @@ def encoded(code, source, path):
     return pathlib.Path(path)
 
 
+def damage_group(code, group, count, draw):
+    """A group with so many symbols of each codeword changed."""
+    spare = 8 * len(group) - code.positions * code.depth * code.width
+    bits = int.from_bytes(group, "big")
+    for word in range(code.depth):
+        for position in draw.sample(range(code.positions), count):
+            after = (code.positions - position) * code.depth - word - 1
+            bits ^= draw.randrange(1, code.symbols) << (spare + after * code.width)
+    return bits.to_bytes(len(group), "big")
+
+
 def damage(code, stored, count, path):
-    """The stored text with so many bytes of each codeword changed."""
+    """The stored text with so many symbols of each codeword changed."""
     draw = random.Random(count)
-    text = bytearray(pathlib.Path(stored).read_bytes())
-    for start in range(0, len(text), code.positions * code.depth):
-        for word in range(code.depth):
-            for position in draw.sample(range(code.positions), count):
-                text[start + position * code.depth + word] ^= draw.randrange(1, code.symbols)
+    text = pathlib.Path(stored).read_bytes()
+    groups = (text[start : start + code.group] for start in range(0, len(text), code.group))
     path = pathlib.Path(path)
-    path.write_bytes(text)
+    path.write_bytes(b"".join(damage_group(code, group, count, draw) for group in groups))
     return path
+
+
+def with_rule(code, rule, path):
+    """The descriptor of a code with another rule, as `weight = 63`."""
+    text = re.sub(r"(?m)^(weight|improved) = .*$", rule, code.file.read_text())
+    pathlib.Path(path).write_text(text)
+    return pathlib.Path(path)
 
 
 def check_same(path, other):

@@ -58,6 +58,28 @@ fn fewer_checks_for_one_change(rt: HostRuntime) -> Result<(), Fail> {
     assert_met(&rt, rt.alloc(), &rows, "improved = 3")
 }
 
+// Each symbol of the group is changed to each other symbol, and to a byte that is no symbol.
+#[test]
+fn each_change_of_one_symbol_is_repaired(rt: HostRuntime) -> Result<(), Fail> {
+    let alloc = rt.alloc();
+    for (position, new) in EMPTY.iter().enumerate() {
+        for change in [1, 2, 3, 0x84] {
+            let mut text = EMPTY;
+            text[position] ^= change;
+            let old = *new ^ change;
+            let report = format!(in alloc;
+                "changed 0 0 {position} {old:02x} {new:02x}\ndone bytes 0 groups 1 changed 1\n"
+            )?;
+            let row = Row {
+                report: report.as_bytes(),
+                ..done("decode D", HERMITIAN_4, &text, &[])
+            };
+            assert_met(&rt, alloc, &[row], "improved = 3")?;
+        }
+    }
+    Ok(())
+}
+
 #[test]
 fn no_checks_at_all(rt: HostRuntime) -> Result<(), Fail> {
     let params =
@@ -154,6 +176,19 @@ fn fewer_checks_than_by_weight(rt: HostRuntime) -> Result<(), Fail> {
             "improved = 6",
             "n 64\nk 55\nchecks 9\nbound 6\nt 2\n",
             "\nchecked 0 4 5 8 9 10 12 15 16\nrelation 5:1 20:1\n",
+        ),
+        // the example, and the least weight that repairs as many
+        (
+            "params D",
+            "improved = 5",
+            "n 64\nk 56\nchecks 8\nbound 5\nt 2\n",
+            "\nchecked 0 4 5 8 9 10 12 15\nrelation 5:1 20:1\n",
+        ),
+        (
+            "params D",
+            "weight = 15",
+            "n 64\nk 54\nchecks 10\nbound 5\nt 2\n",
+            "\nrelation 5:1 20:1\n",
         ),
         (
             "params D",

@@ -9,6 +9,8 @@ mod bound_rows;
 #[cfg(test)]
 mod compile_rows;
 #[cfg(test)]
+mod damage;
+#[cfg(test)]
 mod decode_rows;
 #[cfg(test)]
 mod descriptor_rows;

@@ -1,8 +1,9 @@
 //! Texts that store each symbol in as many bits as it has.
 
 use crate::bound_rows::TABLE;
+use crate::damage::{Damage, assert_repairs};
 use crate::descriptors::{HERMITIAN_4, is_met_with, with};
-use crate::rig::{Row, done, is_met, stopped};
+use crate::rig::{Row, done, is_met, plain, stopped};
 use agcode_top::Status;
 use code_descriptor::{DescCause, KeyName};
 use std::alloc::Global;
@@ -109,6 +110,63 @@ fn bits_after_the_symbols_have_any_value(rt: HostRuntime) -> Result<(), Fail> {
     ];
     for row in &rows {
         assert!(rt; is_met(&rt, alloc, row)?);
+    }
+    Ok(())
+}
+
+// A descriptor over the field of so many bits, with seven points of y^2 + y = x^3: codewords of seven symbols, four of them
+// message, with radius 1. A group ends within a byte but where a symbol is one.
+fn seven_points<X: Threads + Sync>(
+    rt: &X,
+    alloc: Global,
+    bits: u32,
+    modulus: u32,
+) -> Result<String, Fail> {
+    let head = format!(in alloc; "bits = {bits}\nmodulus = {modulus}\na = 2\nb = 3\n")?;
+    let terms = "terms = [[0, 2, 1], [0, 1, 1], [3, 0, 1]]\n";
+    let rest = "\nweight = 3\ndepth = 1\nlayout = \"packed\"\n";
+    let none = format!(in alloc; "{head}{terms}points = []{rest}")?;
+    let list = String::from_utf8(plain(rt, alloc, "points D", none.as_str(), &[])?.out)?;
+    let mut points = String::new(alloc);
+    for line in list.lines().take(7) {
+        points.push_str(line)?;
+    }
+    Ok(format!(in alloc; "{head}{terms}points = [{points}]{rest}")?)
+}
+
+// Ten bytes in codewords of each number of bits, with one change in each codeword and the bits after it changed too.
+#[test]
+fn symbols_have_two_to_eight_bits(rt: HostRuntime) -> Result<(), Fail> {
+    let alloc = rt.alloc();
+    let cases: [(u8, u32, u32, u8); 7] = [
+        (2, 7, 2, 11),
+        (3, 11, 3, 7),
+        (4, 19, 4, 6),
+        (5, 37, 5, 5),
+        (6, 67, 6, 4),
+        (7, 131, 7, 3),
+        (8, 283, 7, 3),
+    ];
+    for (width, modulus, group, groups) in cases {
+        let desc = seven_points(&rt, alloc, u32::from(width), modulus)?;
+        let damage = Damage {
+            group,
+            symbols: 7,
+            width,
+            depth: 1,
+            step: 8,
+            last: 6,
+        };
+        let end = format!(in alloc; "\ndone bytes 10 groups {groups} changed {groups}\n")?;
+        assert_repairs(
+            &rt,
+            alloc,
+            desc.as_str(),
+            10,
+            &damage,
+            usize::from(groups) + 1,
+            end.as_str(),
+        )?;
     }
     Ok(())
 }

@@ -4,3 +4,4 @@
 mod decoding;
 mod encoding;
 mod salvaging;
+mod short_files;

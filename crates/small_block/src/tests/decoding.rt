@@ -28,8 +28,8 @@ struct Case<'a> {
     report: &'a str,
 }
 
-// Decodes, and tells no more of it than its answer.
-fn decode<X: Threads + Sync, C: BlockCode + Sync, I: Source, O: Sink, R: Sink>(
+/// Decodes, and tells no more of it than its answer.
+pub fn decode<X: Threads + Sync, C: BlockCode + Sync, I: Source, O: Sink, R: Sink>(
     rt: &X,
     code: &C,
     room: &mut DecodeRoom<C::Bench>,

@@ -23,8 +23,8 @@ struct Case<'a> {
     image: &'a [u8],
 }
 
-// Encodes, and tells no more of it than its answer.
-fn encode<C: BlockCode, I: Source, O: Sink>(
+/// Encodes, and tells no more of it than its answer.
+pub fn encode<C: BlockCode, I: Source, O: Sink>(
     code: &C,
     room: &mut EncodeRoom,
     src: &mut I,
