@@ -17,6 +17,7 @@ import tempfile
 from contextlib import redirect_stderr
 from pathlib import Path
 
+sys.dont_write_bytecode = True
 import check_bound
 import decode_plain
 
