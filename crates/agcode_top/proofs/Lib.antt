@@ -3,5 +3,8 @@ pub mod RunLemmas
 pub mod WordLemmas
 pub mod TableLemmas
 pub mod StreamLemmas
+pub mod EndLemmas
+pub mod StillLemmas
+pub mod CauseLemmas
 pub mod AnswerLemmas
 pub mod HeadlineLemmas
