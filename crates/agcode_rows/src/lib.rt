@@ -17,6 +17,8 @@ mod descriptors;
 #[cfg(test)]
 mod encode_rows;
 #[cfg(test)]
+mod erase_rows;
+#[cfg(test)]
 mod fault_rows;
 #[cfg(test)]
 mod gate;

@@ -38,6 +38,7 @@ use Rattle.agcode_top.specs.Lines.{line_of}
 use Rattle.agcode_top.specs.Streams.{Encoded, Decoded, encode_status, decode_status, encode_of, decode_of}
 use Rattle.agcode_top.specs.Leaves.{AnswerLeaves, said, out_stopped, report_stopped, input_stopped, wanting, EncodeLeaves, encoded, unencoded, DecodeLeaves, decoded, undecoded, ServeLeaves, ServesDescribed, CarryOutLeaves, unread, refused, unserved, served, ObeyLeaves}
 use Rattle.agcode_top.specs.Headline.{Answers, AnswersOver, AnswersPart, AnswersInPart, AnswersUntold, AnswersInText, AnswersExactly, Yields, IsLike, RefusesBy, RefusesExactly, LeavesUntouched, LeavesUnread, TellsLine, TakesWithin, TellsNumber, KeepsCounts, IsFileText, IsValid, Completes}
+use Rattle.agcode_top.proofs.EraseLemmas.{one-erase}
 use Rattle.agcode_top.proofs.EndLemmas.{with_line, line_call, rose-later, stayed-top, stayed-front, Served, one_text, encodes, decodes, serves, serves-text, Ends, answer-ends, encode-ends, decode-ends, ends-at, served-ends, ends-can, ends-own, encode-InputFault, decode-InputFault, encode-OutFault, decode-OutFault, encode-ReportFault, decode-ReportFault, said-not, answer-InputFault, serve-InputFault, answer-OutFault, serve-OutFault, answer-ReportFault, serve-ReportFault, same-parts, refused-accepted, parts-cause, one-part-cause, one-cause, carried-served, obeyed-carried, described-ends, carried-not-Usage, described-at}
 use Rattle.agcode_top.proofs.StillLemmas.{unread-still, ungiven-still, carried-early, answer-wanting, encode-NoMemory, decode-NoMemory, streamed-wanting, serve-wanting, carried-wanting, run-early, carried-unread, run-unread, answer-quiet, carried-quiet, run-quiet, IsSilent, silent-still, decode-IsOwn, answer-silent, serve-silent, carried-silent, gives-later, run-line, run-usage_line, still-most, answer-most, most-at, most-sum, serve-most, carried-most, run-taken, just-append, same-taken, just-same, number-answer, number-encode, number-decode, no-word-length, encode-no-word, decode-no-word, number-served, number-carried, run-number, Kept, read-still, write-still, untouched-kept, not-passing, answer-kept, kept-line, carried-kept, run-kept, line-nothing, front-nil, front-nothing, no-line}
 use Rattle.agcode_top.proofs.CauseLemmas.{valid-member, valid-votes, valid-check, valid-done, answer-done, encode-done, decode-answer, file-answer, decode-done, serve-done, run-usage, run-own, carried-desc_fault, run-desc_fault, run-input_fault, run-out_fault, run-report_fault, same-cause, carried-descriptor, run-descriptor, carried-refused, run-refused, none-first, command-done, run-complete}
@@ -164,7 +165,7 @@ one-answer ws Encode p input s t text told other tells h k = absurd h.0
 one-answer ws Decode p input s t text told other tells h k = absurd h.0
 one-answer ws Votes p input s t text told other tells h k = one-votes p input s t text other h.0 k.0
 one-answer ws Trial p input s t text told other tells h k = inl (k.0.0 ∙ sym h.0.0)
-one-answer ws Erase p input s t text told other tells h k = absurd h
+one-answer ws Erase p input s t text told other tells h k = one-erase p input s t text told other tells h k
 one-answer ws Design p input s t text told other tells h k = absurd h.0
 
 pub like-text : (s t : Status) → IsLike s t → has_text t ≡ true → has_text s ≡ true

@@ -40,6 +40,7 @@ use Rattle.agcode_top.specs.Lines.{line_of}
 use Rattle.agcode_top.specs.Streams.{Encoded, Decoded, encode_status, decode_status, encode_of, decode_of}
 use Rattle.agcode_top.specs.Leaves.{AnswerLeaves, said, out_stopped, report_stopped, input_stopped, wanting, EncodeLeaves, encoded, unencoded, DecodeLeaves, decoded, undecoded, ServeLeaves, ServesDescribed, CarryOutLeaves, unread, refused, unserved, served, ObeyLeaves}
 use Rattle.agcode_top.specs.Headline.{Answers, AnswersOver, AnswersPart, AnswersUntold, AnswersExactly, Yields, IsLike, RefusesBy, RefusesExactly, LeavesUntouched, LeavesUnread, TellsLine, TakesWithin, TellsNumber, KeepsCounts, IsFileText, IsValid, Completes}
+use Rattle.agcode_top.proofs.EraseLemmas.{valid-erase}
 use Rattle.agcode_top.proofs.EndLemmas.{with_line, line_call, rose-later, stayed-top, stayed-front, Served, one_text, encodes, decodes, serves, serves-text, Ends, answer-ends, encode-ends, decode-ends, ends-at, served-ends, ends-can, ends-own, encode-InputFault, decode-InputFault, encode-OutFault, decode-OutFault, encode-ReportFault, decode-ReportFault, said-not, answer-InputFault, serve-InputFault, answer-OutFault, serve-OutFault, answer-ReportFault, serve-ReportFault, same-parts, refused-accepted, parts-cause, one-part-cause, one-cause, carried-served, obeyed-carried, described-ends, carried-not-Usage, described-at}
 use Rattle.agcode_top.proofs.StillLemmas.{unread-still, ungiven-still, carried-early, answer-wanting, encode-NoMemory, decode-NoMemory, streamed-wanting, serve-wanting, carried-wanting, run-early, carried-unread, run-unread, answer-quiet, carried-quiet, run-quiet, IsSilent, silent-still, decode-IsOwn, answer-silent, serve-silent, carried-silent, gives-later, run-line, run-usage_line, still-most, answer-most, most-at, most-sum, serve-most, carried-most, run-taken, just-append, same-taken, just-same, number-answer, number-encode, number-decode, no-word-length, encode-no-word, decode-no-word, number-served, number-carried, run-number, Kept, read-still, write-still, untouched-kept, not-passing, answer-kept, kept-line, carried-kept, run-kept, line-nothing, front-nil, front-nothing, no-line}
 
@@ -69,7 +70,7 @@ valid-done ws Check p input status text told e v s = valid-check p input status 
 valid-done ws Encode p input status text told e v s = absurd (let z : ⊥ = cc in z)
 valid-done ws Decode p input status text told e v s = absurd (let z : ⊥ = cc in z)
 valid-done ws Trial p input status text told e v s = s.0.0
-valid-done ws Erase p input status text told e v s = absurd v
+valid-done ws Erase p input status text told e v s = valid-erase p input status text told v s
 valid-done ws Design p input status text told e v s = absurd v
 
 pub answer-done : (ws : Words) (command : Command) (p : Parts) (i : SourceCall) (o r : SinkCall) (s : Status) → is_streamed command ≡ false → AnswerLeaves ws command p i o r s → IsInputTold command i.tells → (ReadFailed i → ⊥) → (WriteFailed o → ⊥) → (WriteFailed r → ⊥) → IsValid command p i.before.left →

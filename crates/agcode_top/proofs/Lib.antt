@@ -3,6 +3,7 @@ pub mod RunLemmas
 pub mod WordLemmas
 pub mod TableLemmas
 pub mod StreamLemmas
+pub mod EraseLemmas
 pub mod EndLemmas
 pub mod StillLemmas
 pub mod CauseLemmas

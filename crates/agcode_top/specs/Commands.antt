@@ -55,6 +55,7 @@ use Rattle.stream_codec.specs.Taking.{most_taken as most_of_pieces}
 use Rattle.stream_codec.specs.declared.limits.TheConstants.{MOST_BYTES, PIECE}
 use Rattle.agcode_top.specs.Calls.{SourceCall, IsUntaken, IsEnded, TakesJust, TakesAtMost, ReadFailed, ReadsWell}
 use Rattle.agcode_top.specs.Statuses.{reads_input, TellsMore, has_text, is_passing, CanSay}
+use Rattle.agcode_top.specs.Erase.{SaysErase}
 use Rattle.agcode_top.specs.declared.limit.TheConstants.{MOST_TABLE}
 use Rattle.agcode_top.specs.declared.status.Status.{Status}
 use Rattle.agcode_top.specs.declared.status.Status.TheVariants.{Done, NotCodeword, WordLength, Beyond}
@@ -157,7 +158,7 @@ SaysOnOut asked Trial p input status text =
 SaysOnOut asked _ p input status text = ⊥
 
 abbrev pub Says : Words → Command → Parts → List ℕ → Status → List ℕ → List ℕ → Type 0
-Says asked Erase p input status text told = ⊥
+Says asked Erase p input status text told = SaysErase p input status text told
 Says asked command p input status text told = SaysOnOut asked command p input status text × (told ≡ [])
 
 abbrev pub most_taken : Command → Parts → ℕ

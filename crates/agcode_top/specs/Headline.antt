@@ -51,7 +51,7 @@ use Rattle.stored_form.specs.Reading.{IsNearImage, differences}
 use Rattle.stream_codec.specs.Report.{lines_of, lines, done}
 use Rattle.command_words.specs.declared.words.Command.{Command}
 use Rattle.command_words.specs.declared.words.Command.TheVariants.{Member, Points, Params, Bound, Check}
-use Rattle.command_words.specs.declared.words.Command.TheVariants.{Encode, Decode, Votes, Trial}
+use Rattle.command_words.specs.declared.words.Command.TheVariants.{Encode, Decode, Votes, Trial, Erase}
 use Rattle.command_words.specs.declared.words.Words.{Words}
 use Rattle.block_theory.specs.Checks.{IsInCode}
 use Rattle.code_descriptor.specs.declared.DescCause.{DescCause}
@@ -71,6 +71,7 @@ use Rattle.agcode_top.specs.Calls.{GivesText, Writes, StopsAt, GivesOrFails, End
 use Rattle.agcode_top.specs.Statuses.{is_streamed, reads_input, tells_report, TellsMore, has_text, is_passing}
 use Rattle.agcode_top.specs.Statuses.{IsAnswer, IsOwn, IsRead, IsEarly}
 use Rattle.agcode_top.specs.Lines.{line_of}
+use Rattle.agcode_top.specs.Erase.{IsFillable}
 use Rattle.agcode_top.specs.Commands.{Accepts, Refuses, IsInputTold, IsNearCode, Says, TakesFor, PassesAt}
 use Rattle.agcode_top.specs.Commands.{most_taken}
 use Rattle.agcode_top.specs.Streams.{Encoded, Decoded}
@@ -137,6 +138,7 @@ IsValid Encode p input = length input ≤ MOST_BYTES
 IsValid Decode p input = IsFileText p input
 IsValid Votes p input = IsNearCode p input
 IsValid Trial p input = Unit {0}
+IsValid Erase p input = IsFillable p input
 IsValid _ p input = ⊥
 
 abbrev pub Completes : Command → Call → Status → Type 0

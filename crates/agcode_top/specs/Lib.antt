@@ -8,3 +8,5 @@ pub mod Texts
 pub mod Inputs
 pub mod Steps
 pub mod Leaves
+pub mod Erase
+pub mod Filled

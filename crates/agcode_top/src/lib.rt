@@ -7,6 +7,7 @@ mod check;
 mod compile_and_serve;
 mod decode;
 mod encode;
+mod erase;
 mod input;
 mod limit;
 mod member;

@@ -9,6 +9,7 @@ ghost use Rattle.agcode_top.specs.Leaves.{ServeLeaves};
 use crate::check::check;
 use crate::decode::decode;
 use crate::encode::encode;
+use crate::erase::erase;
 use crate::member::member;
 use crate::params::params;
 use crate::status::Status;
@@ -61,6 +62,7 @@ pub fn serve<X: Threads + Sync, I: Source, O: Sink, R: Sink, G: Gate>(
         ),
         Command::Votes => votes(alloc, described, input, out),
         Command::Trial => trial(rt, alloc, asked, described, out),
-        Command::Points | Command::Erase | Command::Design => unreachable!(),
+        Command::Erase => erase(alloc, described, input, out, report),
+        Command::Points | Command::Design => unreachable!(),
     }
 }

@@ -1,7 +1,9 @@
 //! The code of the curve `y^2 + y = x^3` over GF(4) with its eight points, compiled and used: its words, verdicts and
-//! ledgers are compared with those that were worked by hand, and its decoder with a search through all words.
+//! ledgers are compared with those that were worked by hand, and its decoder and what it fills in with searches.
 #![tactic(auto)]
 
+#[cfg(test)]
+mod lost;
 #[cfg(test)]
 mod rig;
 #[cfg(test)]

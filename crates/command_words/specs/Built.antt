@@ -3,14 +3,13 @@
 -- is_flag_built      the same of a flag
 use Rattle.std.specs.Prelude.{Bool, true, false}
 use Rattle.command_words.specs.declared.words.Command.{Command}
-use Rattle.command_words.specs.declared.words.Command.TheVariants.{Erase, Design}
+use Rattle.command_words.specs.declared.words.Command.TheVariants.{Design}
 use Rattle.command_words.specs.declared.words.OptionName.{OptionName}
 use Rattle.command_words.specs.declared.words.OptionName.TheVariants.{Want}
 use Rattle.command_words.specs.declared.words.FlagName.{FlagName}
 use Rattle.command_words.specs.declared.words.FlagName.TheVariants.{Salvage}
 
 abbrev pub is_built : Command → Bool
-is_built Erase = false
 is_built Design = false
 is_built _ = true
 

@@ -9,7 +9,7 @@ use crate::words::{Command, FlagName, OptionName};
 pub fn is_command_built(command: Command) -> bool
     ensures { result ≡ is_built command }
 {
-    !matches!(command, Command::Erase | Command::Design)
+    !matches!(command, Command::Design)
 }
 
 /// Whether an option with a value is built.

@@ -28,6 +28,14 @@ fn commands_without_options(rt: HostRuntime) -> Result<(), Fail> {
     assert_eq!(rt; read(alloc, "member D")?, Some(expected));
     // an empty path is a path
     assert_eq!(rt; read(alloc, "member ")?, Some(expected));
+    let command = Command::Erase;
+    assert_eq!(rt;
+        read(alloc, "erase D")?,
+        Some(Words {
+            command,
+            ..expected
+        })
+    );
     for line in [
         "member",
         "frob D",
@@ -36,6 +44,7 @@ fn commands_without_options(rt: HostRuntime) -> Result<(), Fail> {
         "member D D",
         "Member D",
         "member --seed 1 D",
+        "erase --seed 1 D",
     ] {
         assert_eq!(rt; read(alloc, line)?, None, "{line}");
     }
@@ -104,7 +113,6 @@ fn workers_of_a_decoding(rt: HostRuntime) -> Result<(), Fail> {
 fn what_is_not_built_is_refused(rt: HostRuntime) -> Result<(), Fail> {
     let alloc = rt.alloc();
     for line in [
-        "erase D",
         "design D",
         "design --want 2 D",
         "decode --salvage D",
@@ -122,7 +130,6 @@ fn what_is_not_built_is_refused(rt: HostRuntime) -> Result<(), Fail> {
 
 #[test]
 fn the_grammar_of_what_is_not_built(rt: HostRuntime) -> Result<(), Fail> {
-    assert_eq!(rt; command_named("erase"), Some(Command::Erase));
     assert_eq!(rt; command_named("design"), Some(Command::Design));
     assert_eq!(rt; option_named("--want"), Some(OptionName::Want));
     assert!(rt; has_option(Command::Design, OptionName::Want));

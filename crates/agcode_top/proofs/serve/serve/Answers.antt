@@ -1,4 +1,4 @@
-use Rattle.command_words.specs.declared.words.Command.TheVariants.{Member, Params, Bound, Check, Encode, Decode, Votes, Trial}
+use Rattle.command_words.specs.declared.words.Command.TheVariants.{Member, Params, Bound, Check, Encode, Decode, Votes, Trial, Erase}
 use Rattle.agcode_top.proofs.RunLemmas.{serve-at}
 use Rattle.agcode_top.proofs.serve.serve.Goals as goal
 
@@ -25,3 +25,6 @@ returns-in-Check-clause-leaves g c = serve-at _ _ Check _ _ _ _ _ c.in-Check.is 
 
 pub returns-in-Trial-clause-leaves : goal.returns-in-Trial-clause-leaves
 returns-in-Trial-clause-leaves g c = serve-at _ _ Trial _ _ _ _ _ c.in-Trial.is (c.trial.ensures.leaves _ _ _ _)
+
+pub returns-in-Erase-clause-leaves : goal.returns-in-Erase-clause-leaves
+returns-in-Erase-clause-leaves g c = serve-at _ _ Erase _ _ _ _ _ c.in-Erase.is (c.erase.ensures.leaves _)
