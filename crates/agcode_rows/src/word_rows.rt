@@ -23,8 +23,6 @@ fn other_words_are_usage(rt: HostRuntime) -> Result<(), Fail> {
         "decode -- D",
         // words of commands and options that are not built
         "erase D",
-        "design D",
-        "design --want 2 D",
         "decode --salvage D",
     ];
     let usage = "usage: agcode COMMAND [OPTIONS] DESC\n";
