@@ -15,6 +15,8 @@ mod descriptor_rows;
 #[cfg(test)]
 mod descriptors;
 #[cfg(test)]
+mod design_rows;
+#[cfg(test)]
 mod encode_rows;
 #[cfg(test)]
 mod erase_rows;

@@ -24,8 +24,6 @@ fn other_words_are_usage(rt: HostRuntime) -> Result<(), Fail> {
         "erase",
         "erase --workers 2 D",
         // words of commands and options that are not built
-        "design D",
-        "design --want 2 D",
         "decode --salvage D",
     ];
     let usage = "usage: agcode COMMAND [OPTIONS] DESC\n";

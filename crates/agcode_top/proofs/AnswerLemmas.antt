@@ -30,13 +30,15 @@ use Rattle.stream_codec.specs.declared.limits.TheConstants.{MOST_BYTES}
 use Rattle.agcode_top.specs.declared.limit.TheConstants.{MOST_TABLE}
 use Rattle.code_descriptor.specs.declared.DescCause.TheVariants.{TooLarge, NotToml, BadKey, BadField, BadDegrees, BadTerm, MissingLead, BadPoint, BadWeight, BadImproved, BadLayout, BadDepth, NoPoints, NothingFree}
 use Rattle.agcode_top.specs.declared.status.Status.{Status}
-use Rattle.agcode_top.specs.declared.status.Status.TheVariants.{Done, NotCodeword, Beyond, Ragged, Framing, TableRefused, WordLength, Usage, Descriptor, TooLong, DescFault, InputFault, OutFault, ReportFault, NoMemory}
+use Rattle.agcode_top.specs.declared.status.Status.TheVariants.{Done, NotCodeword, Beyond, Ragged, Framing, TableRefused, WordLength, Usage, Descriptor, TooLong, DescFault, InputFault, OutFault, ReportFault, NoMemory, NoDesign}
 use Rattle.agcode_top.specs.Calls.{Call, SourceCall, SinkCall, Untouched, until, once_given, IsUntaken, IsUngiven, ReadFailed, WriteFailed, ReadsWell, WritesWell, Writes, StopsAt, GivesOrFails, NoneFailed, TakesJust, TakesAtMost}
 use Rattle.agcode_top.specs.Statuses.{OnWords, OnCommand, IsAnswer, IsEarly, IsOwn, IsQuiet, is_streamed, is_passing, has_text, tells_report, reads_input, TellsMore, CanSay, CanStop, CanEnd}
 use Rattle.agcode_top.specs.Commands.{has_points, Refuses, RefusesParts, Accepts, Says, SaysOnOut, SaysMember, SaysCheck, SaysVotes, is_in_code, not_in_code, not_long, is_table, no_table, too_long, is_near, is_far, not_n_long, IsNoWord, IsInputTold, TakesFor, most_taken}
 use Rattle.agcode_top.specs.Lines.{line_of}
 use Rattle.agcode_top.specs.Streams.{Encoded, Decoded, encode_status, decode_status, encode_of, decode_of}
 use Rattle.agcode_top.specs.Leaves.{AnswerLeaves, said, out_stopped, report_stopped, input_stopped, wanting, EncodeLeaves, encoded, unencoded, DecodeLeaves, decoded, undecoded, ServeLeaves, ServesDescribed, CarryOutLeaves, unread, refused, unserved, served, ObeyLeaves}
+use Rattle.descriptor_design.proofs.Once.{one_most, not_both}
+use Rattle.agcode_top.specs.Design.{SaysDesign, has_plans, no_plan}
 use Rattle.agcode_top.specs.Headline.{Answers, AnswersOver, AnswersPart, AnswersInPart, AnswersUntold, AnswersInText, AnswersExactly, Yields, IsLike, RefusesBy, RefusesExactly, LeavesUntouched, LeavesUnread, TellsLine, TakesWithin, TellsNumber, KeepsCounts, IsFileText, IsValid, Completes}
 use Rattle.agcode_top.proofs.EraseLemmas.{one-erase}
 use Rattle.agcode_top.proofs.EndLemmas.{with_line, line_call, rose-later, stayed-top, stayed-front, Served, one_text, encodes, decodes, serves, serves-text, Ends, answer-ends, encode-ends, decode-ends, ends-at, served-ends, ends-can, ends-own, encode-InputFault, decode-InputFault, encode-OutFault, decode-OutFault, encode-ReportFault, decode-ReportFault, said-not, answer-InputFault, serve-InputFault, answer-OutFault, serve-OutFault, answer-ReportFault, serve-ReportFault, same-parts, refused-accepted, parts-cause, one-part-cause, one-cause, carried-served, obeyed-carried, described-ends, carried-not-Usage, described-at}
@@ -155,6 +157,12 @@ one-check p input s t text other (too_long taken e passed most x) (is_table f fe
 one-check p input s t text other (too_long taken e passed most x) (no_table line f few bad y) = absurd (not-passed input taken few passed most)
 one-check p input s t text other (too_long taken e passed most x) (too_long taken' f passed' most' y) = inr (inr (taken, taken', e, f))
 
+pub one-design : (p : Parts) (want : ℕ) (s t : Status) (text other : List ℕ) → SaysDesign p want s text → SaysDesign p want t other → IsLike s t
+one-design p want s t text other (has_plans e plans) (has_plans f plans') = inl (f ∙ sym e)
+one-design p want s t text other (has_plans e plans) (no_plan most f none y) = absurd (not_both p want text most plans none)
+one-design p want s t text other (no_plan most e none x) (has_plans f plans) = absurd (not_both p want other most plans none)
+one-design p want s t text other (no_plan most e none x) (no_plan most' f none' y) = inl (f ∙ ap (λ (n : ℕ). NoDesign n) (one_most p most' most none'.is_most none.is_most) ∙ sym e)
+
 pub one-answer : (ws : Words) (command : Command) (p : Parts) (input : List ℕ) (s t : Status) (text told other tells : List ℕ) → Says ws command p input s text told → Says ws command p input t other tells → IsLike s t
 one-answer ws Member p input s t text told other tells h k = one-member p input s t text other h.0 k.0
 one-answer ws Points p input s t text told other tells h k = inl (k.0.0 ∙ sym h.0.0)
@@ -166,7 +174,7 @@ one-answer ws Decode p input s t text told other tells h k = absurd h.0
 one-answer ws Votes p input s t text told other tells h k = one-votes p input s t text other h.0 k.0
 one-answer ws Trial p input s t text told other tells h k = inl (k.0.0 ∙ sym h.0.0)
 one-answer ws Erase p input s t text told other tells h k = one-erase p input s t text told other tells h k
-one-answer ws Design p input s t text told other tells h k = absurd h.0
+one-answer ws Design p input s t text told other tells h k = one-design p ws.want s t text other h.0 k.0
 
 pub like-text : (s t : Status) → IsLike s t → has_text t ≡ true → has_text s ≡ true
 like-text s t (inl e) h = ap has_text (sym e) ∙ h

@@ -39,28 +39,35 @@ use Rattle.agcode_top.specs.Commands.{has_points, Refuses, RefusesParts, Accepts
 use Rattle.agcode_top.specs.Lines.{line_of}
 use Rattle.agcode_top.specs.Streams.{Encoded, Decoded, encode_status, decode_status, encode_of, decode_of}
 use Rattle.agcode_top.specs.Leaves.{AnswerLeaves, said, out_stopped, report_stopped, input_stopped, wanting, EncodeLeaves, encoded, unencoded, DecodeLeaves, decoded, undecoded, ServeLeaves, ServesDescribed, CarryOutLeaves, unread, refused, unserved, served, ObeyLeaves}
-use Rattle.agcode_top.specs.Headline.{Answers, AnswersOver, AnswersPart, AnswersUntold, AnswersExactly, Yields, IsLike, RefusesBy, RefusesExactly, LeavesUntouched, LeavesUnread, TellsLine, TakesWithin, TellsNumber, KeepsCounts, IsFileText, IsValid, Completes}
+use Rattle.descriptor_design.specs.Plans.{HasMany}
+use Rattle.descriptor_design.proofs.Once.{some_design}
+use Rattle.agcode_top.specs.Design.{SaysDesign, has_plans, no_plan}
+use Rattle.agcode_top.specs.Headline.{IsTableText, Answers, AnswersOver, AnswersPart, AnswersUntold, AnswersExactly, Yields, IsLike, RefusesBy, RefusesExactly, LeavesUntouched, LeavesUnread, TellsLine, TakesWithin, TellsNumber, KeepsCounts, IsFileText, IsValid, Completes}
 use Rattle.agcode_top.proofs.EraseLemmas.{valid-erase}
 use Rattle.agcode_top.proofs.EndLemmas.{with_line, line_call, rose-later, stayed-top, stayed-front, Served, one_text, encodes, decodes, serves, serves-text, Ends, answer-ends, encode-ends, decode-ends, ends-at, served-ends, ends-can, ends-own, encode-InputFault, decode-InputFault, encode-OutFault, decode-OutFault, encode-ReportFault, decode-ReportFault, said-not, answer-InputFault, serve-InputFault, answer-OutFault, serve-OutFault, answer-ReportFault, serve-ReportFault, same-parts, refused-accepted, parts-cause, one-part-cause, one-cause, carried-served, obeyed-carried, described-ends, carried-not-Usage, described-at}
 use Rattle.agcode_top.proofs.StillLemmas.{unread-still, ungiven-still, carried-early, answer-wanting, encode-NoMemory, decode-NoMemory, streamed-wanting, serve-wanting, carried-wanting, run-early, carried-unread, run-unread, answer-quiet, carried-quiet, run-quiet, IsSilent, silent-still, decode-IsOwn, answer-silent, serve-silent, carried-silent, gives-later, run-line, run-usage_line, still-most, answer-most, most-at, most-sum, serve-most, carried-most, run-taken, just-append, same-taken, just-same, number-answer, number-encode, number-decode, no-word-length, encode-no-word, decode-no-word, number-served, number-carried, run-number, Kept, read-still, write-still, untouched-kept, not-passing, answer-kept, kept-line, carried-kept, run-kept, line-nothing, front-nil, front-nothing, no-line}
 
 -- how a command ends on a valid input
-pub valid-member : (p : Parts) (input : List ℕ) (status : Status) (text : List ℕ) → IsValid Member p input → SaysMember p input status text → status ≡ Done
+pub valid-member : (p : Parts) (input : List ℕ) (status : Status) (text : List ℕ) → IsInCode (checks p) input → SaysMember p input status text → status ≡ Done
 valid-member p input status text v (is_in_code e good t) = e
 valid-member p input status text v (not_in_code e long other t) = absurd (other v)
 valid-member p input status text v (not_long taken e none t) = absurd (none.other_length v.is_word.n_long)
 
-pub valid-votes : (p : Parts) (input : List ℕ) (status : Status) (text : List ℕ) → IsValid Votes p input → SaysVotes p input status text → status ≡ Done
+pub valid-votes : (p : Parts) (input : List ℕ) (status : Status) (text : List ℕ) → IsNearCode p input → SaysVotes p input status text → status ≡ Done
 valid-votes p input status text v (is_near e long votes) = e
 valid-votes p input status text v (is_far e long far t) = absurd (far v.word v.near)
 valid-votes p input status text v (not_n_long taken e none t) = absurd (none.other_length v.n_long)
 
-pub valid-check : (p : Parts) (input : List ℕ) (status : Status) (text : List ℕ) → IsValid Check p input → SaysCheck p input status text → status ≡ Done
+pub valid-check : (p : Parts) (input : List ℕ) (status : Status) (text : List ℕ) → IsTableText p input → SaysCheck p input status text → status ≡ Done
 valid-check p input status text v (is_table e few good) = e
 valid-check p input status text v (no_table line e few bad t) = absurd (bad.not_table v.table)
 valid-check p input status text v (too_long taken e passed most t) = absurd (let within : length input ≤ MOST_TABLE = v.within in let z : ⊥ = omega arith in z)
 
-pub valid-done : (ws : Words) (command : Command) (p : Parts) (input : List ℕ) (status : Status) (text told : List ℕ) → is_streamed command ≡ false → IsValid command p input → Says ws command p input status text told → status ≡ Done
+pub valid-design : (p : Parts) (want : ℕ) (status : Status) (text : List ℕ) → HasMany p want → SaysDesign p want status text → status ≡ Done
+valid-design p want status text v (has_plans e plans) = e
+valid-design p want status text v (no_plan most e none t) = absurd (some_design p want most v none)
+
+pub valid-done : (ws : Words) (command : Command) (p : Parts) (input : List ℕ) (status : Status) (text told : List ℕ) → is_streamed command ≡ false → IsValid ws command p input → Says ws command p input status text told → status ≡ Done
 valid-done ws Member p input status text told e v s = valid-member p input status text v s.0
 valid-done ws Points p input status text told e v s = s.0.0
 valid-done ws Params p input status text told e v s = s.0.0
@@ -71,9 +78,9 @@ valid-done ws Encode p input status text told e v s = absurd (let z : ⊥ = cc i
 valid-done ws Decode p input status text told e v s = absurd (let z : ⊥ = cc in z)
 valid-done ws Trial p input status text told e v s = s.0.0
 valid-done ws Erase p input status text told e v s = valid-erase p input status text told v s
-valid-done ws Design p input status text told e v s = absurd v
+valid-done ws Design p input status text told e v s = valid-design p ws.want status text v s.0
 
-pub answer-done : (ws : Words) (command : Command) (p : Parts) (i : SourceCall) (o r : SinkCall) (s : Status) → is_streamed command ≡ false → AnswerLeaves ws command p i o r s → IsInputTold command i.tells → (ReadFailed i → ⊥) → (WriteFailed o → ⊥) → (WriteFailed r → ⊥) → IsValid command p i.before.left →
+pub answer-done : (ws : Words) (command : Command) (p : Parts) (i : SourceCall) (o r : SinkCall) (s : Status) → is_streamed command ≡ false → AnswerLeaves ws command p i o r s → IsInputTold command i.tells → (ReadFailed i → ⊥) → (WriteFailed o → ⊥) → (WriteFailed r → ⊥) → IsValid ws command p i.before.left →
     (s ≡ Done) ⊎ (s ≡ NoMemory)
 answer-done ws command p i o r s e (said h) it si so sr v = inl (valid-done ws command p i.before.left s h.text h.told e v (h.saying.says it))
 answer-done ws command p i o r s e (out_stopped h) it si so sr v = absurd (so h.written.failed)
@@ -98,13 +105,13 @@ decode-answer p i o r s h x told si so sr l e = h.complete told (record { source
 pub decode-done : (p : Parts) (i : SourceCall) (o r : SinkCall) (s : Status) → Decoded p i o r s → IsTrue i.tells → (ReadFailed i → ⊥) → (WriteFailed o → ⊥) → (WriteFailed r → ⊥) → IsFileText p i.before.left → s ≡ Done
 decode-done p i o r s h told si so sr v = h.status_is ∙ ap decode_status (decode-answer p i o r s h v.file told si so sr v.within v.reads)
 
-pub serve-done : (ws : Words) (command : Command) (p : Parts) (i : SourceCall) (o r : SinkCall) (s : Status) → Served ws command p i o r s → IsInputTold command i.tells → (ReadFailed i → ⊥) → (WriteFailed o → ⊥) → (WriteFailed r → ⊥) → IsValid command p i.before.left → (s ≡ Done) ⊎ (s ≡ NoMemory)
+pub serve-done : (ws : Words) (command : Command) (p : Parts) (i : SourceCall) (o r : SinkCall) (s : Status) → Served ws command p i o r s → IsInputTold command i.tells → (ReadFailed i → ⊥) → (WriteFailed o → ⊥) → (WriteFailed r → ⊥) → IsValid ws command p i.before.left → (s ≡ Done) ⊎ (s ≡ NoMemory)
 serve-done ws command p i o r s (one_text e h) it si so sr v = answer-done ws command p i o r s e h it si so sr v
 serve-done ws command p i o r s (encodes c (encoded h still)) it si so sr v =
-    inl (encode-done p i o s h (subst (λ (x : Command). IsInputTold x i.tells) c it refl) si so (subst (λ (x : Command). IsValid x p i.before.left) c v))
+    inl (encode-done p i o s h (subst (λ (x : Command). IsInputTold x i.tells) c it refl) si so (subst (λ (x : Command). IsValid ws x p i.before.left) c v))
 serve-done ws command p i o r s (encodes c (unencoded e still)) it si so sr v = inr e
 serve-done ws command p i o r s (decodes c (decoded h)) it si so sr v =
-    inl (decode-done p i o r s h (subst (λ (x : Command). IsInputTold x i.tells) c it refl) si so sr (subst (λ (x : Command). IsValid x p i.before.left) c v))
+    inl (decode-done p i o r s h (subst (λ (x : Command). IsInputTold x i.tells) c it refl) si so sr (subst (λ (x : Command). IsValid ws x p i.before.left) c v))
 serve-done ws command p i o r s (decodes c (undecoded e still)) it si so sr v = inr e
 
 pub run-usage : (texts : List (List ℕ)) (run : Call) (s : Status) → ObeyLeaves texts run s → (s ≡ Usage) ↔ OnWords texts (λ w. ⊥)
@@ -191,14 +198,14 @@ none-first run last l k n = record {
 }
 
 pub command-done : (ws : Words) (command : Command) (run : Call) (s : Status) → CarryOutLeaves ws command run s → IsTrue run.desc.tells → IsInputTold command run.input.tells → NoneFailed run → (p : Parts) →
-    Accepts command run.desc.before.left p → IsValid command p run.input.before.left → (s ≡ Done) ⊎ (s ≡ NoMemory)
+    Accepts command run.desc.before.left p → IsValid ws command p run.input.before.left → (s ≡ Done) ⊎ (s ≡ NoMemory)
 command-done ws command run s h told it n p a v = elim (carried-served ws command p run s h told n.desc a) [
   | inl e ↦ inr e
   | inr g ↦ serve-done ws command g.parts run.input run.out run.report s (serves ws command g.parts run.input run.out run.report s g.leaves) it n.input n.out n.report
-      (subst (λ (q : Parts). IsValid command q run.input.before.left) (same-parts command run.desc.before.left p g.parts a (g.accepted told)) v)
+      (subst (λ (q : Parts). IsValid ws command q run.input.before.left) (same-parts command run.desc.before.left p g.parts a (g.accepted told)) v)
 ]
 
 pub run-complete : (texts : List (List ℕ)) (run : Call) (s : Status) (last : SinkView) → ObeyLeaves texts run s → run.report.before.faults ≤ run.report.after.faults → run.report.after.faults ≤ last.faults →
-    OnWords texts (λ w. Completes w.command (with_line run last) s)
+    OnWords texts (λ w. Completes w (with_line run last) s)
 run-complete texts run s last h l k v q told it n p a w =
     command-done v v.command run s (obeyed-carried texts run s h v q) told it (none-first run last l k n) p a w

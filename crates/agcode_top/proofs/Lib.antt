@@ -1,6 +1,7 @@
 pub mod TextLemmas
 pub mod RunLemmas
 pub mod WordLemmas
+pub mod DesignLemmas
 pub mod TableLemmas
 pub mod StreamLemmas
 pub mod EraseLemmas

@@ -11,9 +11,11 @@ use Rattle.code_descriptor.specs.declared.DescCause.TheVariants.{TooLarge, NotTo
 use Rattle.descriptor_code.specs.Plain.{IsFull}
 use Rattle.agcode_top.specs.declared.status.Status.{Status}
 use Rattle.agcode_top.specs.declared.status.Status.TheVariants.{Done, NoMemory, OutFault}
+use Rattle.agcode_top.specs.declared.needs.Needs.{Needs}
+use Rattle.agcode_top.specs.declared.needs.Needs.TheVariants as need
 use Rattle.agcode_top.specs.Calls.{Call, SourceCall, SinkCall, Untouched, Writes, ReadsWell, still_source, still_sink}
 use Rattle.agcode_top.specs.Statuses.{CanSay, has_text, reads_input}
-use Rattle.agcode_top.specs.Commands.{has_points, takes_no_code, Refuses, RefusesParts, Says, SaysOnOut, IsInputTold, Saying, most_taken, TakesFor}
+use Rattle.agcode_top.specs.Commands.{has_points, needs, Refuses, RefusesParts, Says, SaysOnOut, IsInputTold, Saying, most_taken, TakesFor}
 use Rattle.agcode_top.specs.Steps.{LeavesText}
 use Rattle.agcode_top.specs.Leaves.{AnswerLeaves, said, out_stopped, wanting, ServeLeaves, CompileAndServe, no_code, not_made, made, CarryOutLeaves, refused, unserved, served}
 
@@ -76,7 +78,7 @@ has_points-from [] h = absurd (h refl)
 has_points-from (p ∷ ps) h = refl
 
 -- what refuses the parts of a descriptor
-pub takes-all : (command : Command) (p : Parts) → takes_no_code command ≡ true → (cause : DescCause) → RefusesParts command p cause → ⊥
+pub takes-all : (command : Command) (p : Parts) → needs command ≡ need.Space → (cause : DescCause) → RefusesParts command p cause → ⊥
 takes-all command p e TooLarge h = h
 takes-all command p e NotToml h = h
 takes-all command p e (BadKey key) h = h
@@ -90,8 +92,26 @@ takes-all command p e BadWeight h = h
 takes-all command p e BadDepth h = h
 takes-all command p e BadImproved h = h
 takes-all command p e BadLayout h = h
-takes-all command p e NoPoints h = let k : true ≡ false = sym e ∙ h.0 in let z : ⊥ = cc in z
-takes-all command p e NothingFree h = let k : true ≡ false = sym e ∙ h.0 in let z : ⊥ = cc in z
+takes-all command p e NoPoints h = h.0 e
+takes-all command p e NothingFree h = let k : need.Space ≡ need.Code = sym e ∙ h.0 in let z : ⊥ = cc in z
+
+-- a command that needs a basis refuses none of the parts that have points
+pub takes-basis : (command : Command) (p : Parts) → needs command ≡ need.Basis → has_points p.points ≡ true → (cause : DescCause) → RefusesParts command p cause → ⊥
+takes-basis command p e some TooLarge h = h
+takes-basis command p e some NotToml h = h
+takes-basis command p e some (BadKey key) h = h
+takes-basis command p e some BadField h = h
+takes-basis command p e some BadSpace h = h
+takes-basis command p e some BadDegrees h = h
+takes-basis command p e some (BadTerm index) h = h
+takes-basis command p e some MissingLead h = h
+takes-basis command p e some (BadPoint index) h = h
+takes-basis command p e some BadWeight h = h
+takes-basis command p e some BadDepth h = h
+takes-basis command p e some BadImproved h = h
+takes-basis command p e some BadLayout h = h
+takes-basis command p e some NoPoints h = let k : true ≡ false = sym some ∙ h.1 in let z : ⊥ = cc in z
+takes-basis command p e some NothingFree h = let k : need.Basis ≡ need.Code = sym e ∙ h.0 in let z : ⊥ = cc in z
 
 pub takes-code : (command : Command) (p : Parts) → has_points p.points ≡ true → (IsFull p → ⊥) → (cause : DescCause) → RefusesParts command p cause → ⊥
 takes-code command p some free TooLarge h = h
@@ -126,6 +146,9 @@ no-points (p ∷ ps) h = absurd (let z : ⊥ = cc in z)
 
 pub points-none : (b : Bool) (ps qs : List Point) → (IsTrue b ↔ (length ps ≡ 0)) → b ≡ true → ps ≡ qs → has_points qs ≡ false
 points-none b ps qs h t e = no-points qs (ap length (sym e) ∙ h.0 t)
+
+pub code-not-space : (command : Command) → needs command ≡ need.Code → needs command ≡ need.Space → ⊥
+code-not-space command e f = let k : need.Code ≡ need.Space = sym e ∙ f in let z : ⊥ = cc in z
 
 pub serve-same : (ws : Words) (command : Command) (p q : Parts) (input : SourceCall) (out report : SinkCall) (status : Status) → p ≡ q → ServeLeaves ws command p input out report status →
     ServeLeaves ws command q input out report status

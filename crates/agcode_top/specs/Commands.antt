@@ -1,4 +1,4 @@
--- takes_no_code      whether a command serves a space without a code of it
+-- needs              what a command needs of a descriptor: its space, the basis at its points, or its code
 -- has_points         whether a list of points is not empty
 -- RefusesParts       a command refuses parts that a text describes, for this cause
 -- Refuses            a command refuses the text of a descriptor, for this cause
@@ -38,7 +38,7 @@ use Rattle.cab_curve.specs.declared.normal.NormTerm.{NormTerm}
 use Rattle.order_bound.specs.TableChecks.{IsRefused as IsRefusedText}
 use Rattle.command_words.specs.declared.words.Command.{Command}
 use Rattle.command_words.specs.declared.words.Command.TheVariants.{Member, Points, Params, Bound, Check}
-use Rattle.command_words.specs.declared.words.Command.TheVariants.{Encode, Decode, Votes, Trial, Erase}
+use Rattle.command_words.specs.declared.words.Command.TheVariants.{Encode, Decode, Votes, Trial, Erase, Design}
 use Rattle.command_words.specs.declared.words.Words.{Words}
 use Rattle.code_descriptor.specs.declared.DescCause.{DescCause}
 use Rattle.code_descriptor.specs.declared.DescCause.TheVariants.{NoPoints, NothingFree}
@@ -56,22 +56,26 @@ use Rattle.stream_codec.specs.declared.limits.TheConstants.{MOST_BYTES, PIECE}
 use Rattle.agcode_top.specs.Calls.{SourceCall, IsUntaken, IsEnded, TakesJust, TakesAtMost, ReadFailed, ReadsWell}
 use Rattle.agcode_top.specs.Statuses.{reads_input, TellsMore, has_text, is_passing, CanSay}
 use Rattle.agcode_top.specs.Erase.{SaysErase}
+use Rattle.agcode_top.specs.Design.{SaysDesign}
+use Rattle.agcode_top.specs.declared.needs.Needs.{Needs}
+use Rattle.agcode_top.specs.declared.needs.Needs.TheVariants as need
 use Rattle.agcode_top.specs.declared.limit.TheConstants.{MOST_TABLE}
 use Rattle.agcode_top.specs.declared.status.Status.{Status}
 use Rattle.agcode_top.specs.declared.status.Status.TheVariants.{Done, NotCodeword, WordLength, Beyond}
 use Rattle.agcode_top.specs.declared.status.Status.TheVariants.{TableRefused, TooLong}
 
-abbrev pub takes_no_code : Command → Bool
-takes_no_code Points = true
-takes_no_code _ = false
+abbrev pub needs : Command → Needs
+needs Points = need.Space
+needs Design = need.Basis
+needs _ = need.Code
 
 abbrev pub has_points : List Point → Bool
 has_points [] = false
 has_points _ = true
 
 abbrev pub RefusesParts : Command → Parts → DescCause → Type 0
-RefusesParts command p NoPoints = (takes_no_code command ≡ false) × (has_points p.points ≡ false)
-RefusesParts command p NothingFree = (takes_no_code command ≡ false) × (has_points p.points ≡ true) × IsFull p
+RefusesParts command p NoPoints = (needs command ≢ need.Space) × (has_points p.points ≡ false)
+RefusesParts command p NothingFree = (needs command ≡ need.Code) × (has_points p.points ≡ true) × IsFull p
 RefusesParts command p _ = ⊥
 
 abbrev pub Refuses : Command → List ℕ → DescCause → Type 0
@@ -155,6 +159,7 @@ SaysOnOut asked Check p input status text = SaysCheck p input status text
 SaysOnOut asked Votes p input status text = SaysVotes p input status text
 SaysOnOut asked Trial p input status text =
     (status ≡ Done) × (text ≡ trial_text_of (plain_form p) (radius p) asked.seed asked.bytes)
+SaysOnOut asked Design p input status text = SaysDesign p asked.want status text
 SaysOnOut asked _ p input status text = ⊥
 
 abbrev pub Says : Words → Command → Parts → List ℕ → Status → List ℕ → List ℕ → Type 0

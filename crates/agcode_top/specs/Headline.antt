@@ -10,7 +10,8 @@
 --                     the status, or a front of that line
 -- IsTableText         an input within the limit that is the table of the order bound
 -- IsFileText          an input within the limit that is read as a file
--- IsValid             the input is one that a command takes
+-- IsValid             the input is one that a command takes; of a design, some function at the points has more pairs than
+--                     twice what is wanted
 -- Completes           where no count rose, the descriptor is accepted and the input is valid, all was done or memory
 --                     was wanting
 -- RefusesBy           a descriptor is refused for its first cause
@@ -51,13 +52,14 @@ use Rattle.stored_form.specs.Reading.{IsNearImage, differences}
 use Rattle.stream_codec.specs.Report.{lines_of, lines, done}
 use Rattle.command_words.specs.declared.words.Command.{Command}
 use Rattle.command_words.specs.declared.words.Command.TheVariants.{Member, Points, Params, Bound, Check}
-use Rattle.command_words.specs.declared.words.Command.TheVariants.{Encode, Decode, Votes, Trial, Erase}
+use Rattle.command_words.specs.declared.words.Command.TheVariants.{Encode, Decode, Votes, Trial, Erase, Design}
 use Rattle.command_words.specs.declared.words.Words.{Words}
 use Rattle.block_theory.specs.Checks.{IsInCode}
 use Rattle.code_descriptor.specs.declared.DescCause.{DescCause}
 use Rattle.code_descriptor.specs.Parts.{Parts}
 use Rattle.descriptor_code.specs.Plain.{checks, plain_form}
 use Rattle.descriptor_code.specs.Tables.{IsTable}
+use Rattle.descriptor_design.specs.Plans.{HasMany}
 use Rattle.stream_codec.specs.declared.limits.TheConstants.{MOST_BYTES}
 use Rattle.agcode_top.specs.declared.limit.TheConstants.{MOST_TABLE}
 use Rattle.agcode_top.specs.declared.status.Status.{Status}
@@ -128,23 +130,24 @@ pub record IsFileText (p : Parts) (input : List ℕ) : Type 0 where
   pub file : List ℕ
   pub reads : reading (plain_form p) input ≡ File file
 
-abbrev pub IsValid : Command → Parts → List ℕ → Type 0
-IsValid Member p input = IsInCode (checks p) input
-IsValid Points p input = Unit {0}
-IsValid Params p input = Unit {0}
-IsValid Bound p input = Unit {0}
-IsValid Check p input = IsTableText p input
-IsValid Encode p input = length input ≤ MOST_BYTES
-IsValid Decode p input = IsFileText p input
-IsValid Votes p input = IsNearCode p input
-IsValid Trial p input = Unit {0}
-IsValid Erase p input = IsFillable p input
-IsValid _ p input = ⊥
+abbrev pub IsValid : Words → Command → Parts → List ℕ → Type 0
+IsValid asked Member p input = IsInCode (checks p) input
+IsValid asked Points p input = Unit {0}
+IsValid asked Params p input = Unit {0}
+IsValid asked Bound p input = Unit {0}
+IsValid asked Check p input = IsTableText p input
+IsValid asked Encode p input = length input ≤ MOST_BYTES
+IsValid asked Decode p input = IsFileText p input
+IsValid asked Votes p input = IsNearCode p input
+IsValid asked Trial p input = Unit {0}
+IsValid asked Erase p input = IsFillable p input
+IsValid asked Design p input = HasMany p asked.want
+IsValid asked _ p input = ⊥
 
-abbrev pub Completes : Command → Call → Status → Type 0
-Completes command c status =
-    IsTrue c.desc.tells → IsInputTold command c.input.tells → NoneFailed c →
-    (p : Parts) → Accepts command c.desc.before.left p → IsValid command p c.input.before.left →
+abbrev pub Completes : Words → Call → Status → Type 0
+Completes asked c status =
+    IsTrue c.desc.tells → IsInputTold asked.command c.input.tells → NoneFailed c →
+    (p : Parts) → Accepts asked.command c.desc.before.left p → IsValid asked asked.command p c.input.before.left →
     (status ≡ Done) ⊎ (status ≡ NoMemory)
 
 abbrev pub RefusesBy : Command → SourceCall → Status → Type 0

@@ -1,6 +1,7 @@
 pub mod Calls
 pub mod Statuses
 pub mod Lines
+pub mod Design
 pub mod Commands
 pub mod Streams
 pub mod Headline

@@ -3,7 +3,8 @@
 ghost use Rattle.std.specs.Prelude.{◌≡◌, ℕ, ◌≤◌, true, false};
 ghost use Rattle.command_words.specs.Built.{is_built};
 ghost use Rattle.agcode_top.specs.Calls.{source_call, sink_call};
-ghost use Rattle.agcode_top.specs.Commands.{takes_no_code};
+ghost use Rattle.agcode_top.specs.Commands.{needs};
+ghost use Rattle.agcode_top.specs.declared.needs.Needs.TheVariants.{Code};
 ghost use Rattle.agcode_top.specs.Leaves.{CompileAndServe};
 
 use crate::serve::serve;
@@ -28,7 +29,7 @@ pub fn compile_and_serve<X: Threads + Sync, I: Source, O: Sink, R: Sink, G: Gate
     report: &mut R,
     gate: &G,
 ) -> Status
-    requires code { takes_no_code asked.now.command ≡ false }
+    requires code { needs asked.now.command ≡ Code }
     requires built { is_built asked.now.command ≡ true }
     requires few_bytes { asked.now.bytes ≤ MOST_TRIAL_BYTES }
     ensures leaves { CompileAndServe asked.now asked.now.command descriptor

@@ -44,7 +44,7 @@ pub fn run<X: Threads + Sync, D: Source, I: Source, O: Sink, R: Sink, G: Gate>(
     ensures reading { OnCommand (map string_bytes words.now) Decode (ReadsText (call
         D.Source desc.old desc.new I.Source input.old input.new
         O.Sink out.old out.new R.Sink report.old report.new) result) }
-    ensures complete { OnWords (map string_bytes words.now) (λ w. Completes w.command (call
+    ensures complete { OnWords (map string_bytes words.now) (λ w. Completes w (call
         D.Source desc.old desc.new I.Source input.old input.new
         O.Sink out.old out.new R.Sink report.old report.new) result) }
 

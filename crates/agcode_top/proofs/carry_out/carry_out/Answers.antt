@@ -1,19 +1,29 @@
-use Rattle.std.proofs.Common.{refl, ap, Err}
-use Rattle.command_words.specs.declared.words.Command.TheVariants.{Points}
+use Rattle.std.proofs.Common.{refl, ap, Err, sym, ◌∙◌}
+use Rattle.command_words.specs.declared.words.Command.TheVariants.{Points, Design}
 use Rattle.agcode_top.specs.Calls.{Call, call}
 use Rattle.agcode_top.specs.Leaves.{unread, refused, unserved, made}
 use Rattle.agcode_top.proofs.RunLemmas.{carry_out-at, carry_out-compiled, takes-all, read-describes, read-refused}
+use Rattle.agcode_top.proofs.DesignLemmas.{needs-Space, needs-Basis}
 use Rattle.agcode_top.proofs.carry_out.carry_out.Goals as goal
 
-pub returns-in-Points-clause-leaves : goal.returns-in-Points-clause-leaves
-returns-in-Points-clause-leaves g c =
+pub returns-in-Space-clause-leaves : goal.returns-in-Space-clause-leaves
+returns-in-Space-clause-leaves g c =
     let run : Call = call g.D.Source c.args.desc.now c.read_text.new.desc g.I.Source c.args.input.now c.args.input.now
     g.O.Sink c.args.out.now c.points.new.out g.R.Sink c.args.report.now c.args.report.now in
-    carry_out-at _ _ Points run _ c.in-Points.is
+    carry_out-at _ _ Points run _ (needs-Space _ (sym c.needs_of.ensures ∙ c.in-Space.is))
     (carry_out-compiled _ Points c.in-Ok-read.descriptor run _
     (λ told. read-describes _ _ _ c.in-Ok-read.descriptor c.deref.ensures.value (c.in-Ok.ensures.text told) c.in-Ok-read.ensures.accepted)
     c.in-Ok.ensures.well
     (made (takes-all Points c.in-Ok-read.descriptor refl) (c.points.ensures.leaves _ _ _ _ _)))
+
+pub returns-in-Basis-clause-leaves : goal.returns-in-Basis-clause-leaves
+returns-in-Basis-clause-leaves g c =
+    let run : Call = call g.D.Source c.args.desc.now c.read_text.new.desc g.I.Source c.args.input.now c.args.input.now
+    g.O.Sink c.args.out.now c.design.new.out g.R.Sink c.args.report.now c.args.report.now in
+    carry_out-at _ _ Design run _ (needs-Basis _ (sym c.needs_of.ensures ∙ c.in-Basis.is))
+    (carry_out-compiled _ Design c.in-Ok-read.descriptor run _
+    (λ told. read-describes _ _ _ c.in-Ok-read.descriptor c.deref.ensures.value (c.in-Ok.ensures.text told) c.in-Ok-read.ensures.accepted)
+    c.in-Ok.ensures.well (c.design.ensures.leaves _ _ _ _))
 
 pub returns-in-Err-Refused-clause-leaves : goal.returns-in-Err-Refused-clause-leaves
 returns-in-Err-Refused-clause-leaves g c =
