@@ -115,8 +115,8 @@ fn erase_stops_at_a_fault(rt: HostRuntime) -> Result<(), Fail> {
 // not 0, as many as the order bound says.
 const LEAST: [u8; 64] = [
     12, 11, 3, 1, 0, 0, 0, 0, 0, 0, 0, 0, 0, 0, 0, 0, 0, 0, 0, 9, 0, 0, 0, 1, 0, 0, 0, 12, 0, 0, 0,
-    0, 0, 0, 0, 0, 0, 0, 0, 8, 7, 4, 2, 9, 0, 0, 0, 0, 4, 10, 5, 12, 0, 0, 0, 0, 0, 0, 0, 4, 5, 1, 9,
-    15,
+    0, 0, 0, 0, 0, 0, 0, 0, 8, 7, 4, 2, 9, 0, 0, 0, 0, 4, 10, 5, 12, 0, 0, 0, 0, 0, 0, 0, 4, 5, 1,
+    9, 15,
 ];
 
 // This word, with the positions lost at which the codeword is not 0, but the last `kept` of them.
@@ -134,11 +134,7 @@ fn without(word: &[u8; 64], kept: usize) -> [u8; 128] {
     input
 }
 
-fn is_met_on_all_points<X: Threads + Sync>(
-    rt: &X,
-    alloc: Global,
-    row: &Row,
-) -> Result<bool, Fail> {
+fn is_met_on_all_points<X: Threads + Sync>(rt: &X, alloc: Global, row: &Row) -> Result<bool, Fail> {
     let desc = with_all_points(rt, alloc, HERMITIAN_16)?;
     let row = Row {
         desc: desc.as_bytes(),
@@ -158,10 +154,8 @@ fn erase_fills_up_to_the_bound(rt: HostRuntime) -> Result<(), Fail> {
     assert!(rt; is_met_on_all_points(&rt, rt.alloc(), &filled(&fewer, &LEAST, lines))?);
     let status = Status::Ambiguous { place: 0 };
     let as_many = without(&LEAST, 0);
-    assert!(rt; is_met_on_all_points(
-        &rt,
-        rt.alloc(),
-        &refused(&as_many, status, "ambiguous 0\n")
-    )?);
+    assert!(rt;
+        is_met_on_all_points(&rt, rt.alloc(), &refused(&as_many, status, "ambiguous 0\n"))?
+    );
     Ok(())
 }
