@@ -27,7 +27,8 @@ use Rattle.stream_codec.specs.Report.{counts_of}
 use Rattle.code_descriptor.specs.declared.DescCause.{DescCause}
 use Rattle.code_descriptor.specs.Parts.{Parts}
 use Rattle.code_descriptor.proofs.OneMeaning.{one_meaning}
-use Rattle.descriptor_code.specs.Plain.{plain_form}
+use Rattle.block_theory.specs.Checks.{IsInCode}
+use Rattle.descriptor_code.specs.Plain.{checks, plain_form}
 use Rattle.stream_codec.specs.declared.limits.TheConstants.{MOST_BYTES}
 use Rattle.agcode_top.specs.declared.limit.TheConstants.{MOST_TABLE}
 use Rattle.code_descriptor.specs.declared.DescCause.TheVariants.{TooLarge, NotToml, BadKey, BadField, BadDegrees, BadTerm, MissingLead, BadPoint, BadWeight, BadImproved, BadLayout, BadDepth, NoPoints, NothingFree}
@@ -35,7 +36,7 @@ use Rattle.agcode_top.specs.declared.status.Status.{Status}
 use Rattle.agcode_top.specs.declared.status.Status.TheVariants.{Done, NotCodeword, Beyond, Ragged, Framing, TableRefused, WordLength, Usage, Descriptor, TooLong, DescFault, InputFault, OutFault, ReportFault, NoMemory}
 use Rattle.agcode_top.specs.Calls.{Call, SourceCall, SinkCall, Untouched, until, once_given, IsUntaken, IsUngiven, ReadFailed, WriteFailed, ReadsWell, WritesWell, Writes, StopsAt, GivesOrFails, NoneFailed, TakesJust, TakesAtMost}
 use Rattle.agcode_top.specs.Statuses.{OnWords, OnCommand, IsAnswer, IsEarly, IsOwn, IsQuiet, is_streamed, is_passing, has_text, tells_report, reads_input, TellsMore, CanSay, CanStop, CanEnd}
-use Rattle.agcode_top.specs.Commands.{has_points, Refuses, RefusesParts, Accepts, Says, SaysOnOut, SaysMember, SaysCheck, SaysVotes, is_in_code, not_in_code, not_long, is_table, no_table, too_long, is_near, is_far, not_n_long, IsNoWord, IsInputTold, TakesFor, most_taken}
+use Rattle.agcode_top.specs.Commands.{IsNearCode, has_points, Refuses, RefusesParts, Accepts, Says, SaysOnOut, SaysMember, SaysCheck, SaysVotes, is_in_code, not_in_code, not_long, is_table, no_table, too_long, is_near, is_far, not_n_long, IsNoWord, IsInputTold, TakesFor, most_taken}
 use Rattle.agcode_top.specs.Lines.{line_of}
 use Rattle.agcode_top.specs.Streams.{Encoded, Decoded, encode_status, decode_status, encode_of, decode_of}
 use Rattle.agcode_top.specs.Leaves.{AnswerLeaves, said, out_stopped, report_stopped, input_stopped, wanting, EncodeLeaves, encoded, unencoded, DecodeLeaves, decoded, undecoded, ServeLeaves, ServesDescribed, CarryOutLeaves, unread, refused, unserved, served, ObeyLeaves}
