@@ -119,13 +119,37 @@ const LEAST: [u8; 64] = [
     9, 15,
 ];
 
-// This word, with the positions lost at which the codeword is not 0, but the last `kept` of them.
-fn without(word: &[u8; 64], kept: usize) -> [u8; 128] {
+// What is told of its first twenty symbols that are not 0.
+const LEAST_LINES: &str = "filled 0 0c
+filled 1 0b
+filled 2 03
+filled 3 01
+filled 19 09
+filled 23 01
+filled 27 0c
+filled 39 08
+filled 40 07
+filled 41 04
+filled 42 02
+filled 43 09
+filled 48 04
+filled 49 0a
+filled 50 05
+filled 51 0c
+filled 59 04
+filled 60 05
+filled 61 01
+filled 62 09
+done filled 20
+";
+
+// This word, with the first `most` of the positions lost at which the codeword is not 0.
+fn without(word: &[u8; 64], most: usize) -> [u8; 128] {
     let mut input = [0; 128];
     let mut lost = 0usize;
     for p in 0..64 {
         input[p] = word[p];
-        if LEAST[p] != 0 && lost + kept < 21 {
+        if LEAST[p] != 0 && lost < most {
             input[p] = 0;
             input[64 + p] = 1;
             lost += 1;
@@ -146,14 +170,10 @@ fn is_met_on_all_points<X: Threads + Sync>(rt: &X, alloc: Global, row: &Row) -> 
 // One position fewer than the bound is filled in; as many as the bound are not, where a codeword has its symbols there.
 #[test]
 fn erase_fills_up_to_the_bound(rt: HostRuntime) -> Result<(), Fail> {
-    let lines = "filled 0 0c\nfilled 1 0b\nfilled 2 03\nfilled 3 01\nfilled 19 09\nfilled 23 01\n\
-        filled 27 0c\nfilled 39 08\nfilled 40 07\nfilled 41 04\nfilled 42 02\nfilled 43 09\n\
-        filled 48 04\nfilled 49 0a\nfilled 50 05\nfilled 51 0c\nfilled 59 04\nfilled 60 05\n\
-        filled 61 01\nfilled 62 09\ndone filled 20\n";
-    let fewer = without(&LEAST, 1);
-    assert!(rt; is_met_on_all_points(&rt, rt.alloc(), &filled(&fewer, &LEAST, lines))?);
+    let fewer = without(&LEAST, 20);
+    assert!(rt; is_met_on_all_points(&rt, rt.alloc(), &filled(&fewer, &LEAST, LEAST_LINES))?);
     let status = Status::Ambiguous { place: 0 };
-    let as_many = without(&LEAST, 0);
+    let as_many = without(&LEAST, 21);
     assert!(rt;
         is_met_on_all_points(&rt, rt.alloc(), &refused(&as_many, status, "ambiguous 0\n"))?
     );
