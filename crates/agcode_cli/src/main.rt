@@ -1,6 +1,8 @@
 //! The program: it makes the real sources and sinks, and calls `agcode_top::run`, which carries every promise.
 #![tactic(auto)]
 
+#[cfg(test)]
+mod adapter_tests;
 mod adapters;
 
 use adapters::{FileSource, ReadSource, WriteSink};

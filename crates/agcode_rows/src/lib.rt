@@ -17,7 +17,11 @@ mod descriptor_rows;
 #[cfg(test)]
 mod descriptors;
 #[cfg(test)]
+mod design_rows;
+#[cfg(test)]
 mod encode_rows;
+#[cfg(test)]
+mod erase_rows;
 #[cfg(test)]
 mod fault_rows;
 #[cfg(test)]

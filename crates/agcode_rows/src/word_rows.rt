@@ -21,10 +21,9 @@ fn other_words_are_usage(rt: HostRuntime) -> Result<(), Fail> {
         "decode --workers 65 D",
         "decode --seed 7 D",
         "decode -- D",
+        "erase",
+        "erase --workers 2 D",
         // words of commands and options that are not built
-        "erase D",
-        "design D",
-        "design --want 2 D",
         "decode --salvage D",
     ];
     let usage = "usage: agcode COMMAND [OPTIONS] DESC\n";

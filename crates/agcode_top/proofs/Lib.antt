@@ -1,7 +1,12 @@
 pub mod TextLemmas
 pub mod RunLemmas
 pub mod WordLemmas
+pub mod DesignLemmas
 pub mod TableLemmas
 pub mod StreamLemmas
+pub mod EraseLemmas
+pub mod EndLemmas
+pub mod StillLemmas
+pub mod CauseLemmas
 pub mod AnswerLemmas
 pub mod HeadlineLemmas

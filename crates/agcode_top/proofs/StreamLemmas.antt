@@ -32,110 +32,21 @@ pub sound-form : (p : Parts) (c : Compiled) (l : Layout) → IsDescriptor p → 
 sound-form p c l d fits e = fits.code.sound l.depth l.packed (omega (arith, e, d.depth_least))
 
 -- a call with the form of a code is one with the form that the descriptor describes
-pub encoded : (p : Parts) (F : Form) (input : SourceCall) (out : SinkCall) (answer : Result EncodeCounts EncodeFault) (status : Status) → F ≡ plain_form p →
+pub encode-did : (p : Parts) (F : Form) (input : SourceCall) (out : SinkCall) (answer : Result EncodeCounts EncodeFault) (status : Status) → F ≡ plain_form p →
     status ≡ encode_status answer → EncodedAs (encode_of F input out) answer → EncodesAll (encode_of F input out) answer → Encoded p input out status
-encoded p F input out answer status same is h k = record {
+encode-did p F input out answer status same is h k = record {
   answer = answer;
   status_is = is;
   encoded = subst (λ (G : Form). EncodedAs (encode_of G input out) answer) same h;
   complete = subst (λ (G : Form). EncodesAll (encode_of G input out) answer) same k;
 }
 
-pub decoded : (p : Parts) (F : Form) (input : SourceCall) (out report : SinkCall) (answer : Result DecodeCounts DecodeFault) (status : Status) → F ≡ plain_form p → IsSound F →
+pub decode-did : (p : Parts) (F : Form) (input : SourceCall) (out report : SinkCall) (answer : Result DecodeCounts DecodeFault) (status : Status) → F ≡ plain_form p → IsSound F →
     status ≡ decode_status answer → DecodedAs (decode_of F input out report) answer → IsComplete (decode_of F input out report) answer → Decoded p input out report status
-decoded p F input out report answer status same sound is h k = record {
+decode-did p F input out report answer status same sound is h k = record {
   sound = subst (λ (G : Form). IsSound G) same sound;
   answer = answer;
   status_is = is;
   decoded = subst (λ (G : Form). DecodedAs (decode_of G input out report) answer) same h;
   complete = subst (λ (G : Form). IsComplete (decode_of G input out report) answer) same k;
 }
-
--- no answer of a stream is want of memory
-is_wanting : Status → Bool
-is_wanting Done = false
-is_wanting NotCodeword = false
-is_wanting (Beyond group word) = false
-is_wanting (Ragged extra) = false
-is_wanting Framing = false
-is_wanting (TableRefused line) = false
-is_wanting (WordLength taken) = false
-is_wanting Usage = false
-is_wanting (Descriptor cause) = false
-is_wanting (TooLong taken) = false
-is_wanting DescFault = false
-is_wanting InputFault = false
-is_wanting OutFault = false
-is_wanting ReportFault = false
-is_wanting Salvaged = false
-is_wanting (BadMark place) = false
-is_wanting NoCodeword = false
-is_wanting (Ambiguous place) = false
-is_wanting (NoDesign most) = false
-is_wanting NoMemory = true
-
-encode_has : (answer : Result EncodeCounts EncodeFault) → is_wanting (encode_status answer) ≡ false
-unfolding is_wanting
-encode_has (Ok counts) = refl
-encode_has (Err encoding.InputFault) = refl
-encode_has (Err encoding.OutFault) = refl
-encode_has (Err (encoding.TooLong taken)) = refl
-
-decode_has : (answer : Result DecodeCounts DecodeFault) → is_wanting (decode_status answer) ≡ false
-unfolding is_wanting
-decode_has (Ok counts) = refl
-decode_has (Err decoding.InputFault) = refl
-decode_has (Err decoding.OutFault) = refl
-decode_has (Err decoding.ReportFault) = refl
-decode_has (Err (decoding.TooLong taken)) = refl
-decode_has (Err (decoding.Beyond group word)) = refl
-decode_has (Err (decoding.Ragged extra)) = refl
-decode_has (Err decoding.Framing) = refl
-
-not_wanting : (other : Status) → NoMemory ≡ other → is_wanting other ≡ false → ⊥
-unfolding is_wanting
-not_wanting other e h = let k : true ≡ false = ap is_wanting e ∙ h in let z : ⊥ = cc in z
-
-pub encode-leaves : (p : Parts) (input : SourceCall) (out : SinkCall) (status : Status) → Encoded p input out status → EncodeLeaves p input out status
-encode-leaves p input out Done h = h
-encode-leaves p input out NotCodeword h = h
-encode-leaves p input out (Beyond group word) h = h
-encode-leaves p input out (Ragged extra) h = h
-encode-leaves p input out Framing h = h
-encode-leaves p input out (TableRefused line) h = h
-encode-leaves p input out (WordLength taken) h = h
-encode-leaves p input out Usage h = h
-encode-leaves p input out (Descriptor cause) h = h
-encode-leaves p input out (TooLong taken) h = h
-encode-leaves p input out DescFault h = h
-encode-leaves p input out InputFault h = h
-encode-leaves p input out OutFault h = h
-encode-leaves p input out ReportFault h = h
-encode-leaves p input out Salvaged h = h
-encode-leaves p input out (BadMark place) h = h
-encode-leaves p input out NoCodeword h = h
-encode-leaves p input out (Ambiguous place) h = h
-encode-leaves p input out (NoDesign most) h = h
-encode-leaves p input out NoMemory h = absurd (not_wanting (encode_status h.answer) h.status_is (encode_has h.answer))
-
-pub decode-leaves : (p : Parts) (input : SourceCall) (out report : SinkCall) (status : Status) → Decoded p input out report status → DecodeLeaves p input out report status
-decode-leaves p input out report Done h = h
-decode-leaves p input out report NotCodeword h = h
-decode-leaves p input out report (Beyond group word) h = h
-decode-leaves p input out report (Ragged extra) h = h
-decode-leaves p input out report Framing h = h
-decode-leaves p input out report (TableRefused line) h = h
-decode-leaves p input out report (WordLength taken) h = h
-decode-leaves p input out report Usage h = h
-decode-leaves p input out report (Descriptor cause) h = h
-decode-leaves p input out report (TooLong taken) h = h
-decode-leaves p input out report DescFault h = h
-decode-leaves p input out report InputFault h = h
-decode-leaves p input out report OutFault h = h
-decode-leaves p input out report ReportFault h = h
-decode-leaves p input out report Salvaged h = h
-decode-leaves p input out report (BadMark place) h = h
-decode-leaves p input out report NoCodeword h = h
-decode-leaves p input out report (Ambiguous place) h = h
-decode-leaves p input out report (NoDesign most) h = h
-decode-leaves p input out report NoMemory h = absurd (not_wanting (decode_status h.answer) h.status_is (decode_has h.answer))

@@ -1,11 +1,19 @@
 -- Texts that are read, and texts that are made
-use Rattle.std.proofs.Common.{◌≡◌, ℕ, ◌+◌, ◌<◌, List, [], ◌∷◌, ◌++◌, length, take, get_or, sym, ap, subst, ◌∙◌, inl, inr, arith, append-nil, ◌≢◌, min, Result, Ok, Err, IfOk, Vec, Global, Bool, IsTrue, length-append}
+use Rattle.std.proofs.Common.{◌≡◌, ℕ, ◌+◌, ◌<◌, ◌≤◌, List, [], ◌∷◌, ◌++◌, length, take, get_or, sym, ap, subst, ◌∙◌, inl, inr, arith, append-nil, ◌≢◌, min, Result, Ok, Err, IfOk, Vec, Global, Bool, IsTrue, length-append}
 use Rattle.std.specs.List.{flat_map}
 use Rattle.std.proofs.lemmas.Grind.{flat_map-append, common_steps}
 use Rattle.std.proofs.lemmas.List.{take_more, length-take-le}
 use Rattle.code_descriptor.specs.declared.TheConstants.{MOST_TEXT}
 use Rattle.code_descriptor.specs.Meaning.{IsRefusedFor, Describes, MeansTheSame}
 use Rattle.code_descriptor.proofs.OneMeaning.{large_same}
+use Rattle.ag_io.specs.Counts.{Rose}
+use Rattle.ag_io.specs.Views.{SourceView}
+use Rattle.stream_codec.specs.declared.limits.TheConstants.{PIECE}
+use Rattle.agcode_top.specs.declared.input.InputFault.{InputFault}
+use Rattle.agcode_top.specs.declared.input.InputFault.TheVariants.{NoMemory, Fault, TooLong}
+use Rattle.agcode_top.specs.declared.input.Tail.{Tail}
+use Rattle.agcode_top.specs.declared.input.Tail.TheVariants as ends
+use Rattle.agcode_top.specs.Inputs.{IsInputFault, IsFaultAt, Took}
 use Rattle.agcode_top.specs.Texts.{IsFront}
 
 -- what is left out of a text that fills the room changes nothing
@@ -54,3 +62,34 @@ pub word-is : (n : ℕ) (buf before after : List ℕ) → before ≡ take n buf 
 word-is n buf before after e f = e ∙ ap (λ (x : List ℕ). take n buf ++ x) f ∙ append-nil (take n buf)
 
 pub ruleset word_steps = (word-whole, word-short, word-is)
+
+-- a read of the input failed after a text was read, and some bytes more
+pub fault-cases : (limit : ℕ) (tells : Bool) (first mid last : SourceView) (text : List ℕ) (got : ℕ) (fault : InputFault) → (IsTrue tells → first.left ≡ text ++ mid.left) → length text ≤ limit → mid.faults ≡ first.faults → got < PIECE →
+    (IsTrue tells → length mid.left ≡ length last.left + got) → Rose mid.faults last.faults → IsFaultAt limit (length text + got) fault → IsInputFault limit (record { tells = tells; before = first; after = last }) fault
+fault-cases limit tells first mid last text got NoMemory read few well short took rose at = absurd at
+fault-cases limit tells first mid last text got Fault read few well short took rose at = (
+  λ told.
+      let a : length first.left ≡ length text + length mid.left = ap length (read told) ∙ length-append text mid.left in
+      let b : length mid.left ≡ length last.left + got = took told in
+      let c : length text + got ≤ limit = at in
+      omega arith,
+  subst (λ (n : ℕ). Rose n last.faults) well rose,
+)
+fault-cases limit tells first mid last text got (TooLong number) read few well short took rose at =
+    let c : limit < length text + got = at.0 in
+    let d : number ≡ length text + got = at.1 in (
+      omega arith,
+      omega arith,
+      λ told.
+          let a : length first.left ≡ length text + length mid.left = ap length (read told) ∙ length-append text mid.left in
+          let b : length mid.left ≡ length last.left + got = took told in
+          omega arith,
+      λ told none. absurd (none (subst (λ (n : ℕ). Rose n last.faults) well rose)),
+    )
+
+pub read-stops : (limit : ℕ) (tells : Bool) (first mid last : SourceView) (text after : List ℕ) (len got : ℕ) (tail : Tail) (fault : InputFault) → (IsTrue tells → first.left ≡ text ++ mid.left) → length text ≤ limit → mid.faults ≡ first.faults →
+    Took (record { tells = tells; before = mid; after = last }) text after tail → tail ≡ ends.Fault got → len ≡ length after → IsFaultAt limit (len + got) fault → IsInputFault limit (record { tells = tells; before = first; after = last }) fault
+read-stops limit tells first mid last text after len got tail fault read few well took is l at =
+    let k : Took (record { tells = tells; before = mid; after = last }) text after (ends.Fault got) = subst (λ (t : Tail). Took (record { tells = tells; before = mid; after = last }) text after t) is took in
+    let e : len ≡ length text = l ∙ ap length k.0 in
+    fault-cases limit tells first mid last text got fault read few well k.1 k.2 k.3 (subst (λ (n : ℕ). IsFaultAt limit (n + got) fault) e at)

@@ -1,4 +1,4 @@
--- takes_no_code      whether a command serves a space without a code of it
+-- needs              what a command needs of a descriptor: its space, the basis at its points, or its code
 -- has_points         whether a list of points is not empty
 -- RefusesParts       a command refuses parts that a text describes, for this cause
 -- Refuses            a command refuses the text of a descriptor, for this cause
@@ -13,16 +13,19 @@
 -- HasVotes           a text is the ledger of the error that leads an input to the codeword near it
 -- point_text         the line of a point of so many coordinates
 -- points_text        all points of a space, a line each
--- SaysMember         how member ends, with its text on out
+-- SaysMember         what member says of an input: its status and its text on out
 -- SaysCheck          the same of check
 -- SaysVotes          the same of votes
--- Says               how a command ends, with its text on out, by the words, the parts of the descriptor and the bytes
---                    of the input
--- GaveAnswer         a command that writes one text said its answer over a descriptor of these parts, with its text on
---                    out
--- GaveAnswerFront    .. or was stopped by a fault of out, after a front of that text
+-- SaysOnOut          what a command says of the words, the parts of the descriptor and the bytes of the input: its status
+--                    and its text on out
+-- Says               .. and what it tells on report before the line of the status
+-- most_taken         how many bytes of its input a command may take
+-- TakesAll           all of the input was taken, or nothing, where the command does not read it
+-- TakesFor           what was taken of the input by a command that says this status
+-- PassesAt           where a limit was passed and no read failed, all of the input was taken, but at most so much
+-- Saying             a command says this, where the bytes of the input are told; and what was taken of the input
 -- IsNearCode         an input of n bytes that a codeword is near
-use Rattle.std.specs.Prelude.{◌≡◌, ◌≢◌, ℕ, ◌+◌, ◌<◌, ◌≤◌, min, Bool, true, false, List, [], length, codes, IsTrue}
+use Rattle.std.specs.Prelude.{◌≡◌, ◌≢◌, ℕ, ◌+◌, ◌*◌, ◌<◌, ◌≤◌, min, Bool, true, false, List, [], length, codes, IsTrue}
 use Rattle.std.specs.Prelude.{◌⊎◌, ◌==◌, if◌then◌else◌, Option}
 use Rattle.std.specs.List.{flat_map}
 use Rattle.ag_texts.specs.Lines.{plain_line_of, number_line_of}
@@ -34,7 +37,8 @@ use Rattle.order_domain.specs.declared.Point.{Point}
 use Rattle.cab_curve.specs.declared.normal.NormTerm.{NormTerm}
 use Rattle.order_bound.specs.TableChecks.{IsRefused as IsRefusedText}
 use Rattle.command_words.specs.declared.words.Command.{Command}
-use Rattle.command_words.specs.declared.words.Command.TheVariants.{Member, Points, Params, Bound, Check, Votes, Trial}
+use Rattle.command_words.specs.declared.words.Command.TheVariants.{Member, Points, Params, Bound, Check}
+use Rattle.command_words.specs.declared.words.Command.TheVariants.{Encode, Decode, Votes, Trial, Erase, Design}
 use Rattle.command_words.specs.declared.words.Words.{Words}
 use Rattle.code_descriptor.specs.declared.DescCause.{DescCause}
 use Rattle.code_descriptor.specs.declared.DescCause.TheVariants.{NoPoints, NothingFree}
@@ -46,23 +50,32 @@ use Rattle.descriptor_code.specs.Tables.{ledger, IsTable}
 use Rattle.descriptor_code.specs.Codes.{domain_of}
 use Rattle.code_texts.specs.Texts.{params_text_of, votes_text_of}
 use Rattle.code_trial.specs.Trials.{trial_text_of}
-use Rattle.agcode_top.specs.Calls.{SourceCall, SinkCall, GivesText, GivesTextFront}
+use Rattle.stored_form.specs.Frame.{group_bytes}
+use Rattle.stream_codec.specs.Taking.{most_taken as most_of_pieces}
+use Rattle.stream_codec.specs.declared.limits.TheConstants.{MOST_BYTES, PIECE}
+use Rattle.agcode_top.specs.Calls.{SourceCall, IsUntaken, IsEnded, TakesJust, TakesAtMost, ReadFailed, ReadsWell}
+use Rattle.agcode_top.specs.Statuses.{reads_input, TellsMore, has_text, is_passing, CanSay}
+use Rattle.agcode_top.specs.Erase.{SaysErase}
+use Rattle.agcode_top.specs.Design.{SaysDesign}
+use Rattle.agcode_top.specs.declared.needs.Needs.{Needs}
+use Rattle.agcode_top.specs.declared.needs.Needs.TheVariants as need
 use Rattle.agcode_top.specs.declared.limit.TheConstants.{MOST_TABLE}
 use Rattle.agcode_top.specs.declared.status.Status.{Status}
 use Rattle.agcode_top.specs.declared.status.Status.TheVariants.{Done, NotCodeword, WordLength, Beyond}
 use Rattle.agcode_top.specs.declared.status.Status.TheVariants.{TableRefused, TooLong}
 
-abbrev pub takes_no_code : Command → Bool
-takes_no_code Points = true
-takes_no_code _ = false
+abbrev pub needs : Command → Needs
+needs Points = need.Space
+needs Design = need.Basis
+needs _ = need.Code
 
 abbrev pub has_points : List Point → Bool
 has_points [] = false
 has_points _ = true
 
 abbrev pub RefusesParts : Command → Parts → DescCause → Type 0
-RefusesParts command p NoPoints = (takes_no_code command ≡ false) × (has_points p.points ≡ false)
-RefusesParts command p NothingFree = (takes_no_code command ≡ false) × (has_points p.points ≡ true) × IsFull p
+RefusesParts command p NoPoints = (needs command ≢ need.Space) × (has_points p.points ≡ false)
+RefusesParts command p NothingFree = (needs command ≡ need.Code) × (has_points p.points ≡ true) × IsFull p
 RefusesParts command p _ = ⊥
 
 abbrev pub Refuses : Command → List ℕ → DescCause → Type 0
@@ -74,11 +87,7 @@ pub record Accepts (command : Command) (text : List ℕ) (p : Parts) : Type 0 wh
   pub accepted : (cause : DescCause) → RefusesParts command p cause → ⊥
 
 abbrev pub IsInputTold : Command → Bool → Type 0
-IsInputTold Points tells = Unit {0}
-IsInputTold Params tells = Unit {0}
-IsInputTold Bound tells = Unit {0}
-IsInputTold Trial tells = Unit {0}
-IsInputTold _ tells = IsTrue tells
+IsInputTold command tells = reads_input command ≡ true → IsTrue tells
 
 pub record IsNoWord (p : Parts) (input : List ℕ) (taken : ℕ) : Type 0 where
   pub other_length : length input ≢ length p.points
@@ -119,50 +128,77 @@ pub record HasVotes (p : Parts) (input text : List ℕ) : Type 0 where
 abbrev pub IsFar : Parts → List ℕ → Type 0
 IsFar p input = (word : List ℕ) → IsNearWord p input word → ⊥
 
-abbrev pub SaysMember : Parts → List ℕ → Status → List ℕ → Type 0
-SaysMember p input Done text = IsInCode (checks p) input × (text ≡ plain_line_of (codes "codeword"))
-SaysMember p input NotCodeword text =
-    (length input ≡ length p.points) × (IsInCode (checks p) input → ⊥)
-    × (text ≡ plain_line_of (codes "not a codeword"))
-SaysMember p input (WordLength taken) text = IsNoWord p input taken × (text ≡ [])
-SaysMember p input _ text = ⊥
+pub data SaysMember (p : Parts) (input : List ℕ) (status : Status) (text : List ℕ) : Type 0 where
+  is_in_code : status ≡ Done → IsInCode (checks p) input →
+      text ≡ plain_line_of (codes "codeword") → SaysMember p input status text
+  not_in_code : status ≡ NotCodeword → length input ≡ length p.points → (IsInCode (checks p) input → ⊥) →
+      text ≡ plain_line_of (codes "not a codeword") → SaysMember p input status text
+  not_long : (taken : ℕ) → status ≡ WordLength taken → IsNoWord p input taken → text ≡ [] →
+      SaysMember p input status text
 
-abbrev pub SaysCheck : Parts → List ℕ → Status → List ℕ → Type 0
-SaysCheck p input Done text = AcceptsTable p input text
-SaysCheck p input (TableRefused line) text = RefusesTable p input line × (text ≡ [])
-SaysCheck p input (TooLong taken) text = (MOST_TABLE < taken) × (taken ≤ length input) × (text ≡ [])
-SaysCheck p input _ text = ⊥
+pub data SaysCheck (p : Parts) (input : List ℕ) (status : Status) (text : List ℕ) : Type 0 where
+  is_table : status ≡ Done → length input ≤ MOST_TABLE → AcceptsTable p input text → SaysCheck p input status text
+  no_table : (line : ℕ) → status ≡ TableRefused line → length input ≤ MOST_TABLE → RefusesTable p input line →
+      text ≡ [] → SaysCheck p input status text
+  too_long : (taken : ℕ) → status ≡ TooLong taken → MOST_TABLE < taken → taken ≤ length input → text ≡ [] →
+      SaysCheck p input status text
 
-abbrev pub SaysVotes : Parts → List ℕ → Status → List ℕ → Type 0
-SaysVotes p input Done text = (length input ≡ length p.points) × HasVotes p input text
-SaysVotes p input (Beyond group word) text =
-    (group ≡ 0) × (word ≡ 0) × (length input ≡ length p.points) × IsFar p input × (text ≡ [])
-SaysVotes p input (WordLength taken) text = IsNoWord p input taken × (text ≡ [])
-SaysVotes p input _ text = ⊥
+pub data SaysVotes (p : Parts) (input : List ℕ) (status : Status) (text : List ℕ) : Type 0 where
+  is_near : status ≡ Done → length input ≡ length p.points → HasVotes p input text → SaysVotes p input status text
+  is_far : status ≡ Beyond 0 0 → length input ≡ length p.points → IsFar p input → text ≡ [] →
+      SaysVotes p input status text
+  not_n_long : (taken : ℕ) → status ≡ WordLength taken → IsNoWord p input taken → text ≡ [] →
+      SaysVotes p input status text
 
-abbrev pub Says : Words → Command → Parts → List ℕ → Status → List ℕ → Type 0
-Says asked Member p input status text = SaysMember p input status text
-Says asked Points p input status text = (status ≡ Done) × (text ≡ points_text p)
-Says asked Params p input status text = (status ≡ Done) × HasParameters p text
-Says asked Bound p input status text = (status ≡ Done) × IsTable p text
-Says asked Check p input status text = SaysCheck p input status text
-Says asked Votes p input status text = SaysVotes p input status text
-Says asked Trial p input status text =
+abbrev pub SaysOnOut : Words → Command → Parts → List ℕ → Status → List ℕ → Type 0
+SaysOnOut asked Member p input status text = SaysMember p input status text
+SaysOnOut asked Points p input status text = (status ≡ Done) × (text ≡ points_text p)
+SaysOnOut asked Params p input status text = (status ≡ Done) × HasParameters p text
+SaysOnOut asked Bound p input status text = (status ≡ Done) × IsTable p text
+SaysOnOut asked Check p input status text = SaysCheck p input status text
+SaysOnOut asked Votes p input status text = SaysVotes p input status text
+SaysOnOut asked Trial p input status text =
     (status ≡ Done) × (text ≡ trial_text_of (plain_form p) (radius p) asked.seed asked.bytes)
-Says asked _ p input status text = ⊥
+SaysOnOut asked Design p input status text = SaysDesign p asked.want status text
+SaysOnOut asked _ p input status text = ⊥
 
-pub record GaveAnswer (asked : Words) (command : Command) (p : Parts) (input : SourceCall) (out : SinkCall)
-    (status : Status) : Type 0 where
-  pub text : List ℕ
-  pub says : Says asked command p input.before.left status text
-  pub given : GivesText out text
+abbrev pub Says : Words → Command → Parts → List ℕ → Status → List ℕ → List ℕ → Type 0
+Says asked Erase p input status text told = SaysErase p input status text told
+Says asked command p input status text told = SaysOnOut asked command p input status text × (told ≡ [])
 
-pub record GaveAnswerFront (asked : Words) (command : Command) (p : Parts) (input : SourceCall) (out : SinkCall)
-    : Type 0 where
-  pub status : Status
-  pub text : List ℕ
-  pub says : Says asked command p input.before.left status text
-  pub given : GivesTextFront out text
+abbrev pub most_taken : Command → Parts → ℕ
+most_taken Member p = length p.points + 1
+most_taken Check p = MOST_TABLE + PIECE
+most_taken Encode p = MOST_BYTES + PIECE
+most_taken Decode p = most_of_pieces (group_bytes (plain_form p)) MOST_BYTES
+most_taken Votes p = length p.points + 1
+most_taken Erase p = 2 * length p.points + 1
+most_taken _ p = 0
+
+abbrev pub TakesAll : (reads : Bool) → SourceCall → Type 0
+TakesAll true input = IsEnded input
+TakesAll false input = IsUntaken input
+
+abbrev pub TakesFor : Command → Status → SourceCall → Type 0
+TakesFor command (WordLength taken) input = TakesJust taken input
+TakesFor command (TooLong taken) input = TakesJust taken input
+TakesFor command _ input = TakesAll (reads_input command) input
+
+abbrev pub PassesAt : ℕ → SourceCall → Status → Type 0
+PassesAt most input (TooLong taken) =
+    IsTrue input.tells → (ReadFailed input → ⊥) → taken ≡ min (length input.before.left) most
+PassesAt most input _ = Unit {0}
+
+pub record Saying (asked : Words) (command : Command) (p : Parts) (input : SourceCall) (status : Status)
+    (text told : List ℕ) : Type 0 where
+  pub can : CanSay status command
+  pub says : IsInputTold command input.tells → Says asked command p input.before.left status text told
+  pub bare : has_text status ≡ false → text ≡ []
+  pub plain : (TellsMore command status → ⊥) → told ≡ []
+  pub most : TakesAtMost (most_taken command p) input
+  pub taken : TakesFor command status input
+  pub passes : PassesAt (most_taken command p) input status
+  pub read_well : is_passing status ≡ false → ReadsWell input
 
 pub record IsNearCode (p : Parts) (input : List ℕ) : Type 0 where
   pub n_long : length input ≡ length p.points

@@ -10,23 +10,38 @@
 --                     the status, or a front of that line
 -- IsTableText         an input within the limit that is the table of the order bound
 -- IsFileText          an input within the limit that is read as a file
--- IsValid             the input is one that a command takes
+-- IsValid             the input is one that a command takes; of a design, some function at the points has more pairs than
+--                     twice what is wanted
 -- Completes           where no count rose, the descriptor is accepted and the input is valid, all was done or memory
 --                     was wanting
 -- RefusesBy           a descriptor is refused for its first cause
+-- RefusesExactly      .. exactly where it has one, unless it could not be read or memory was wanting
+-- OfText              a premise of the next ones: the command writes one text, and the descriptor and what it reads are
+--                     told
 -- Answers             a command that writes one text says its answer: what it is by the descriptor and the input, with
---                     its text on out
+--                     its text on out, and on report what it tells there and the line of the status
 -- AnswersOver         .. over a descriptor of these parts
--- AnswersPart         .. or was stopped by a fault of out: a front of that text was given
+-- AnswersPart         .. or was stopped by a fault of out: a front of that text was given, and not all of it
 -- AnswersInPart       .. over a descriptor of these parts
--- OfText              a premise of these: the command writes one text, and the descriptor and what it reads are told
+-- AnswersUntold       .. or was stopped by a fault of report, after all of its text
+-- AnswersInText       .. over a descriptor of these parts
+-- Yields              the statuses that may come in place of this one, where it is what a command says
+-- IsLike              the same status, whatever its number is where a table is refused or too long
+-- AnswersExactly      a command that writes one text ends with what it says, or with a status to which that yields
 -- EncodesAs           encode: all that is known of the input and out by the status that it ended with
 -- EncodedOver         .. over a descriptor of these parts
 -- DecodesAs           decode: all that is known of the input, out and report by the status that it ended with
 -- DecodedOver         .. over a descriptor of these parts; the line of the status was told last
--- TellsLine           but by decode, the line of the status and no other is told, or a front of it where the write
---                     failed
-use Rattle.std.specs.Prelude.{◌≡◌, ℕ, ◌≤◌, List, [], ◌++◌, length, IsTrue, false, ◌⊎◌}
+-- LeavesUntouched     Usage, DescFault, Descriptor, NoMemory: nothing was given on out; at the first three nothing was
+--                     taken of the input, and at the first nothing of the descriptor
+-- LeavesUnread        encode and decode: where memory was wanting, nothing was taken of the input
+-- TellsLine           the line of the status and no other is told, or a front of it where the write failed, but by a
+--                     command that tells more
+-- TakesWithin         no command takes more of its input than it may
+-- TellsNumber         a status that tells a number of bytes taken tells just that number
+-- KeepsCounts         a command that writes one text: where it did not end with a fault of a source or sink, no call of
+--                     that one failed, but for the write of the last line; a read may also fail where it passes a limit
+use Rattle.std.specs.Prelude.{◌≡◌, ℕ, ◌≤◌, List, [], ◌++◌, length, IsTrue, true, false, ◌⊎◌}
 use Rattle.ag_io.specs.Views.{SinkView}
 use Rattle.ag_texts.specs.Lines.{done_line_of}
 use Rattle.stored_form.specs.Form.{Form}
@@ -37,23 +52,30 @@ use Rattle.stored_form.specs.Reading.{IsNearImage, differences}
 use Rattle.stream_codec.specs.Report.{lines_of, lines, done}
 use Rattle.command_words.specs.declared.words.Command.{Command}
 use Rattle.command_words.specs.declared.words.Command.TheVariants.{Member, Points, Params, Bound, Check}
-use Rattle.command_words.specs.declared.words.Command.TheVariants.{Encode, Decode, Votes, Trial}
+use Rattle.command_words.specs.declared.words.Command.TheVariants.{Encode, Decode, Votes, Trial, Erase, Design}
 use Rattle.command_words.specs.declared.words.Words.{Words}
 use Rattle.block_theory.specs.Checks.{IsInCode}
 use Rattle.code_descriptor.specs.declared.DescCause.{DescCause}
 use Rattle.code_descriptor.specs.Parts.{Parts}
 use Rattle.descriptor_code.specs.Plain.{checks, plain_form}
 use Rattle.descriptor_code.specs.Tables.{IsTable}
+use Rattle.descriptor_design.specs.Plans.{HasMany}
 use Rattle.stream_codec.specs.declared.limits.TheConstants.{MOST_BYTES}
 use Rattle.agcode_top.specs.declared.limit.TheConstants.{MOST_TABLE}
 use Rattle.agcode_top.specs.declared.status.Status.{Status}
 use Rattle.agcode_top.specs.declared.status.Status.TheVariants.{Done, Beyond, Ragged, Framing}
-use Rattle.agcode_top.specs.declared.status.Status.TheVariants.{Descriptor, OutFault, NoMemory}
+use Rattle.agcode_top.specs.declared.status.Status.TheVariants.{TableRefused, WordLength, TooLong}
+use Rattle.agcode_top.specs.declared.status.Status.TheVariants.{Usage, Descriptor, DescFault, InputFault}
+use Rattle.agcode_top.specs.declared.status.Status.TheVariants.{OutFault, ReportFault, NoMemory}
 use Rattle.agcode_top.specs.Calls.{Call, SourceCall, SinkCall, once_given, until, since}
-use Rattle.agcode_top.specs.Calls.{GivesText, GivesOrFails, NoneFailed}
-use Rattle.agcode_top.specs.Statuses.{OnCommand, is_streamed, IsAnswer, IsOwn, IsRead}
+use Rattle.agcode_top.specs.Calls.{IsUntaken, IsUngiven, TakesJust, TakesAtMost, ReadsWell, WritesWell}
+use Rattle.agcode_top.specs.Calls.{GivesText, Writes, StopsAt, GivesOrFails, EndsText, NoneFailed}
+use Rattle.agcode_top.specs.Statuses.{is_streamed, reads_input, tells_report, TellsMore, has_text, is_passing}
+use Rattle.agcode_top.specs.Statuses.{IsAnswer, IsOwn, IsRead, IsEarly}
 use Rattle.agcode_top.specs.Lines.{line_of}
-use Rattle.agcode_top.specs.Commands.{Accepts, Refuses, IsInputTold, IsNearCode, GaveAnswer, GaveAnswerFront}
+use Rattle.agcode_top.specs.Erase.{IsFillable}
+use Rattle.agcode_top.specs.Commands.{Accepts, Refuses, IsInputTold, IsNearCode, Says, TakesFor, PassesAt}
+use Rattle.agcode_top.specs.Commands.{most_taken}
 use Rattle.agcode_top.specs.Streams.{Encoded, Decoded}
 
 pub record HasImage (c : Call) : Type 0 where
@@ -94,7 +116,7 @@ pub record ReadAs (c : Call) (status : Status) : Type 0 where
   pub told :
       let form = plain_form parts in
       let told = lines form c.input.before.left ++ done form c.input.before.left in
-      GivesOrFails (once_given c.report told) (line_of status)
+      EndsText (once_given c.report told) (line_of status)
 
 abbrev pub ReadsText : Call → Status → Type 0
 ReadsText c status = IsRead status → IsTrue c.desc.tells → IsTrue c.input.tells → ReadAs c status
@@ -108,39 +130,68 @@ pub record IsFileText (p : Parts) (input : List ℕ) : Type 0 where
   pub file : List ℕ
   pub reads : reading (plain_form p) input ≡ File file
 
-abbrev pub IsValid : Command → Parts → List ℕ → Type 0
-IsValid Member p input = IsInCode (checks p) input
-IsValid Points p input = Unit {0}
-IsValid Params p input = Unit {0}
-IsValid Bound p input = Unit {0}
-IsValid Check p input = IsTableText p input
-IsValid Encode p input = length input ≤ MOST_BYTES
-IsValid Decode p input = IsFileText p input
-IsValid Votes p input = IsNearCode p input
-IsValid Trial p input = Unit {0}
-IsValid _ p input = ⊥
+abbrev pub IsValid : Words → Command → Parts → List ℕ → Type 0
+IsValid asked Member p input = IsInCode (checks p) input
+IsValid asked Points p input = Unit {0}
+IsValid asked Params p input = Unit {0}
+IsValid asked Bound p input = Unit {0}
+IsValid asked Check p input = IsTableText p input
+IsValid asked Encode p input = length input ≤ MOST_BYTES
+IsValid asked Decode p input = IsFileText p input
+IsValid asked Votes p input = IsNearCode p input
+IsValid asked Trial p input = Unit {0}
+IsValid asked Erase p input = IsFillable p input
+IsValid asked Design p input = HasMany p asked.want
+IsValid asked _ p input = ⊥
 
-abbrev pub Completes : Command → Call → Status → Type 0
-Completes command c status =
-    IsTrue c.desc.tells → IsInputTold command c.input.tells → NoneFailed c →
-    (p : Parts) → Accepts command c.desc.before.left p → IsValid command p c.input.before.left →
+abbrev pub Completes : Words → Call → Status → Type 0
+Completes asked c status =
+    IsTrue c.desc.tells → IsInputTold asked.command c.input.tells → NoneFailed c →
+    (p : Parts) → Accepts asked.command c.desc.before.left p → IsValid asked asked.command p c.input.before.left →
     (status ≡ Done) ⊎ (status ≡ NoMemory)
 
 abbrev pub RefusesBy : Command → SourceCall → Status → Type 0
 RefusesBy command desc status = (cause : DescCause) → status ≡ Descriptor cause → IsTrue desc.tells →
     Refuses command desc.before.left cause
 
+abbrev pub RefusesExactly : Command → SourceCall → Status → Type 0
+RefusesExactly command desc status = (cause : DescCause) → IsTrue desc.tells → Refuses command desc.before.left cause →
+    (status ≡ Descriptor cause) ⊎ (status ≡ DescFault) ⊎ (status ≡ NoMemory)
+
 pub record AnswersOver (asked : Words) (c : Call) (status : Status) : Type 0 where
   pub parts : Parts
   pub accepted : Accepts asked.command c.desc.before.left parts
-  pub gave : GaveAnswer asked asked.command parts c.input c.out status
+  pub text : List ℕ
+  pub told : List ℕ
+  pub says : Says asked asked.command parts c.input.before.left status text told
+  pub taken : TakesFor asked.command status c.input
+  pub passes : PassesAt (most_taken asked.command parts) c.input status
+  pub written : Writes c.out text
+  pub reported : GivesOrFails (once_given c.report told) (line_of status)
 
 pub record AnswersInPart (asked : Words) (c : Call) : Type 0 where
   pub parts : Parts
   pub accepted : Accepts asked.command c.desc.before.left parts
-  pub gave : GaveAnswerFront asked asked.command parts c.input c.out
+  pub status : Status
+  pub text : List ℕ
+  pub told : List ℕ
+  pub says : Says asked asked.command parts c.input.before.left status text told
+  pub has : has_text status ≡ true
+  pub taken : TakesFor asked.command status c.input
+  pub written : StopsAt c.out text
 
--- where a command that writes one text ended so, and the descriptor and the input are told, this holds
+pub record AnswersInText (asked : Words) (c : Call) : Type 0 where
+  pub parts : Parts
+  pub accepted : Accepts asked.command c.desc.before.left parts
+  pub status : Status
+  pub text : List ℕ
+  pub told : List ℕ
+  pub says : Says asked asked.command parts c.input.before.left status text told
+  pub taken : TakesFor asked.command status c.input
+  pub written : Writes c.out text
+  pub reported : StopsAt c.report told
+
+-- where a command writes one text, and the descriptor and the input are told, this holds
 abbrev pub OfText : Words → Call → Type 0 → Type 0
 OfText asked c P =
     is_streamed asked.command ≡ false → IsTrue c.desc.tells → IsInputTold asked.command c.input.tells → P
@@ -150,6 +201,28 @@ Answers asked c status = IsAnswer status → OfText asked c (AnswersOver asked c
 
 abbrev pub AnswersPart : Words → Call → Status → Type 0
 AnswersPart asked c status = status ≡ OutFault → OfText asked c (AnswersInPart asked c)
+
+abbrev pub AnswersUntold : Words → Call → Status → Type 0
+AnswersUntold asked c status = status ≡ ReportFault → OfText asked c (AnswersInText asked c)
+
+abbrev pub Yields : Command → Status → Status → Type 0
+Yields command said DescFault = Unit {0}
+Yields command said NoMemory = Unit {0}
+Yields command said InputFault = reads_input command ≡ true
+Yields command said OutFault = has_text said ≡ true
+Yields command said ReportFault = tells_report command ≡ true
+Yields command said _ = ⊥
+
+abbrev pub IsLike : Status → Status → Type 0
+IsLike said status =
+    (status ≡ said)
+    ⊎ ((line other : ℕ) × (said ≡ TableRefused line) × (status ≡ TableRefused other))
+    ⊎ ((taken other : ℕ) × (said ≡ TooLong taken) × (status ≡ TooLong other))
+
+abbrev pub AnswersExactly : Words → Call → Status → Type 0
+AnswersExactly asked c status = OfText asked c (
+    (p : Parts) (said : Status) (text told : List ℕ) → Accepts asked.command c.desc.before.left p →
+    Says asked asked.command p c.input.before.left said text told → IsLike said status ⊎ Yields asked.command said status)
 
 pub record EncodedOver (c : Call) (status : Status) : Type 0 where
   pub parts : Parts
@@ -171,6 +244,27 @@ pub record DecodedOver (c : Call) (status : Status) : Type 0 where
 abbrev pub DecodesAs : Call → Status → Type 0
 DecodesAs c status = IsOwn status → IsTrue c.desc.tells → DecodedOver c status
 
-abbrev pub TellsLine : List (List ℕ) → SinkCall → Status → Type 0
-TellsLine texts report status =
-    (OnCommand texts Decode (IsOwn status → ⊥)) → GivesOrFails report (line_of status)
+pub record LeavesUntouched (c : Call) (status : Status) : Type 0 where
+  pub desc : status ≡ Usage → IsUntaken c.desc
+  pub input : IsEarly status → IsUntaken c.input
+  pub out : IsEarly status ⊎ (status ≡ NoMemory) → IsUngiven c.out
+
+abbrev pub LeavesUnread : Command → SourceCall → Status → Type 0
+LeavesUnread command input status = is_streamed command ≡ true → status ≡ NoMemory → IsUntaken input
+
+abbrev pub TellsLine : Command → SinkCall → Status → Type 0
+TellsLine command report status = (TellsMore command status → ⊥) → GivesOrFails report (line_of status)
+
+abbrev pub TakesWithin : Command → Call → Type 0
+TakesWithin command c = IsTrue c.desc.tells → (p : Parts) → Accepts command c.desc.before.left p →
+    TakesAtMost (most_taken command p) c.input
+
+abbrev pub TellsNumber : SourceCall → Status → Type 0
+TellsNumber input status =
+    (taken : ℕ) → (status ≡ TooLong taken) ⊎ (status ≡ WordLength taken) → TakesJust taken input
+
+pub record KeepsCounts (c : Call) (status : Status) : Type 0 where
+  pub desc : (status ≡ DescFault → ⊥) → ReadsWell c.desc
+  pub input : (status ≡ InputFault → ⊥) → is_passing status ≡ false → ReadsWell c.input
+  pub out : (status ≡ OutFault → ⊥) → WritesWell c.out
+  pub report : (status ≡ ReportFault → ⊥) → line_of status ≡ [] → WritesWell c.report

@@ -1,18 +1,21 @@
 -- What the private steps of a run leave; the clauses of `run` are proved from it.
 --
--- Tells                     where the input is told, this answer was given
--- AnswerLeaves              what a command that writes one text leaves of the input and out, by its status
--- EncodeLeaves              what encode leaves of the input and out
--- DecodeLeaves              what decode leaves of the input, out and report
--- NoMemoryLeaves            memory was wanting: nothing was written, and encode and decode took nothing
--- ServeLeaves               what any command leaves over a descriptor of these parts, which it accepts
--- CompileAndServeLeaves     the same, where the command also makes the code of the descriptor
--- ServesDescribed           a command accepts the parts that the text of the descriptor describes, and served them
--- CarryOutLeaves            what a command leaves, the reading of the descriptor with it
--- RefusesWords              the words are no command line: usage, and nothing was touched
--- CarriesOutWords           the words are a command line, and its command was carried out
--- ObeyLeaves                one of these
-use Rattle.std.specs.Prelude.{◌≡◌, ℕ, List, IsTrue, ◌⊎◌}
+-- Said                  a command that writes one text said its answer over a descriptor of these parts
+-- OutStopped            a fault of out stopped it: a front of its text was given
+-- ReportStopped         a fault of report stopped it: its text was given, and a front of what it tells
+-- InputStopped          a fault of the input stopped it
+-- Wanting               memory was wanting
+-- AnswerLeaves          one of these
+-- EncodeLeaves          encode did its work, or memory was wanting, and nothing was touched
+-- DecodeLeaves          the same of decode
+-- ServeLeaves           what any command leaves over a descriptor of these parts, which it accepts
+-- CompileAndServe       the same, where the command also makes the code of the descriptor
+-- ServesDescribed       a command accepts the parts that the text of the descriptor describes, and served them
+-- CarryOutLeaves        what a command leaves, the reading of the descriptor with it
+-- RefusesWords          the words are no command line: usage, and nothing was touched
+-- CarriesOutWords       the words are a command line, and its command was carried out
+-- ObeyLeaves            one of these
+use Rattle.std.specs.Prelude.{◌≡◌, ℕ, List, IsTrue, true, ◌⊎◌}
 use Rattle.command_words.specs.declared.words.Command.{Command}
 use Rattle.command_words.specs.declared.words.Command.TheVariants.{Encode, Decode}
 use Rattle.command_words.specs.declared.words.Words.{Words}
@@ -20,83 +23,114 @@ use Rattle.command_words.specs.Lines.{IsCommandLine}
 use Rattle.code_descriptor.specs.declared.DescCause.{DescCause}
 use Rattle.code_descriptor.specs.Parts.{Parts}
 use Rattle.agcode_top.specs.declared.status.Status.{Status}
-use Rattle.agcode_top.specs.declared.status.Status.TheVariants.{Done, NotCodeword, Beyond, TableRefused, WordLength}
-use Rattle.agcode_top.specs.declared.status.Status.TheVariants.{Usage, Descriptor, TooLong, DescFault, InputFault}
-use Rattle.agcode_top.specs.declared.status.Status.TheVariants.{OutFault, NoMemory}
-use Rattle.agcode_top.specs.Calls.{Call, SourceCall, SinkCall, IsUntaken, IsUngiven}
-use Rattle.agcode_top.specs.Calls.{ReadFailed, WriteFailed}
-use Rattle.agcode_top.specs.Statuses.{OnWords}
-use Rattle.agcode_top.specs.Commands.{Refuses, RefusesParts, Accepts, IsInputTold, GaveAnswer, GaveAnswerFront}
+use Rattle.agcode_top.specs.declared.status.Status.TheVariants.{Usage, Descriptor, DescFault, InputFault, OutFault}
+use Rattle.agcode_top.specs.declared.status.Status.TheVariants.{ReportFault, NoMemory}
+use Rattle.agcode_top.specs.Calls.{Call, SourceCall, SinkCall, Untouched, TakesAtMost}
+use Rattle.agcode_top.specs.Calls.{ReadFailed, ReadsWell, Writes, StopsAt}
+use Rattle.agcode_top.specs.Statuses.{OnWords, reads_input, tells_report, TellsMore, has_text}
+use Rattle.agcode_top.specs.Commands.{Refuses, RefusesParts, Accepts, Saying, most_taken}
 use Rattle.agcode_top.specs.Streams.{Encoded, Decoded}
 
-abbrev pub Tells : Words → Command → Parts → SourceCall → SinkCall → Status → Type 0
-Tells asked command p input out status =
-    IsInputTold command input.tells → GaveAnswer asked command p input out status
+pub record Said (asked : Words) (command : Command) (p : Parts) (input : SourceCall) (out report : SinkCall)
+    (status : Status) : Type 0 where
+  pub text : List ℕ
+  pub told : List ℕ
+  pub saying : Saying asked command p input status text told
+  pub written : Writes out text
+  pub reported : Writes report told
 
-abbrev pub AnswerLeaves : Words → Command → Parts → SourceCall → SinkCall → Status → Type 0
-AnswerLeaves asked command p input out Done = Tells asked command p input out Done
-AnswerLeaves asked command p input out NotCodeword = Tells asked command p input out NotCodeword
-AnswerLeaves asked command p input out (Beyond group word) =
-    Tells asked command p input out (Beyond group word) × IsUngiven out
-AnswerLeaves asked command p input out (TableRefused line) =
-    Tells asked command p input out (TableRefused line) × IsUngiven out
-AnswerLeaves asked command p input out (WordLength taken) =
-    Tells asked command p input out (WordLength taken) × IsUngiven out
-AnswerLeaves asked command p input out (TooLong taken) =
-    Tells asked command p input out (TooLong taken) × IsUngiven out
-AnswerLeaves asked command p input out InputFault = ReadFailed input × IsUngiven out
-AnswerLeaves asked command p input out OutFault =
-    WriteFailed out × (IsInputTold command input.tells → GaveAnswerFront asked command p input out)
-AnswerLeaves asked command p input out NoMemory = IsUngiven out
-AnswerLeaves asked command p input out _ = ⊥
+pub record OutStopped (asked : Words) (command : Command) (p : Parts) (input : SourceCall) (out report : SinkCall)
+    (status : Status) : Type 0 where
+  pub status_is : status ≡ OutFault
+  pub answer : Status
+  pub text : List ℕ
+  pub told : List ℕ
+  pub saying : Saying asked command p input answer text told
+  pub has : has_text answer ≡ true
+  pub written : StopsAt out text
+  pub report_still : report.after ≡ report.before
 
-abbrev pub EncodeLeaves : Parts → SourceCall → SinkCall → Status → Type 0
-EncodeLeaves p input out NoMemory = IsUntaken input × IsUngiven out
-EncodeLeaves p input out status = Encoded p input out status
+pub record ReportStopped (asked : Words) (command : Command) (p : Parts) (input : SourceCall) (out report : SinkCall)
+    (status : Status) : Type 0 where
+  pub status_is : status ≡ ReportFault
+  pub tells : tells_report command ≡ true
+  pub more : TellsMore command ReportFault
+  pub answer : Status
+  pub text : List ℕ
+  pub told : List ℕ
+  pub saying : Saying asked command p input answer text told
+  pub has : has_text answer ≡ true
+  pub written : Writes out text
+  pub reported : StopsAt report told
 
-abbrev pub DecodeLeaves : Parts → SourceCall → SinkCall → SinkCall → Status → Type 0
-DecodeLeaves p input out report NoMemory = IsUntaken input × IsUngiven out × IsUngiven report
-DecodeLeaves p input out report status = Decoded p input out report status
+pub record InputStopped (command : Command) (p : Parts) (input : SourceCall) (out report : SinkCall)
+    (status : Status) : Type 0 where
+  pub status_is : status ≡ InputFault
+  pub reads : reads_input command ≡ true
+  pub most : TakesAtMost (most_taken command p) input
+  pub failed : ReadFailed input
+  pub out_still : out.after ≡ out.before
+  pub report_still : report.after ≡ report.before
 
-abbrev pub NoMemoryLeaves : Command → SourceCall → SinkCall → SinkCall → Type 0
-NoMemoryLeaves Encode input out report = IsUntaken input × IsUngiven out × IsUngiven report
-NoMemoryLeaves Decode input out report = IsUntaken input × IsUngiven out × IsUngiven report
-NoMemoryLeaves command input out report = IsUngiven out × IsUngiven report
+pub record Wanting (command : Command) (p : Parts) (input : SourceCall) (out report : SinkCall) (status : Status)
+    : Type 0 where
+  pub status_is : status ≡ NoMemory
+  pub most : TakesAtMost (most_taken command p) input
+  pub read_well : ReadsWell input
+  pub out_still : out.after ≡ out.before
+  pub report_still : report.after ≡ report.before
+
+pub data AnswerLeaves (asked : Words) (command : Command) (p : Parts) (input : SourceCall) (out report : SinkCall)
+    (status : Status) : Type 0 where
+  said : Said asked command p input out report status → AnswerLeaves asked command p input out report status
+  out_stopped : OutStopped asked command p input out report status → AnswerLeaves asked command p input out report status
+  report_stopped : ReportStopped asked command p input out report status →
+      AnswerLeaves asked command p input out report status
+  input_stopped : InputStopped command p input out report status → AnswerLeaves asked command p input out report status
+  wanting : Wanting command p input out report status → AnswerLeaves asked command p input out report status
+
+pub data EncodeLeaves (p : Parts) (input : SourceCall) (out report : SinkCall) (status : Status) : Type 0 where
+  encoded : Encoded p input out status → report.after ≡ report.before → EncodeLeaves p input out report status
+  unencoded : status ≡ NoMemory → Untouched input out report → EncodeLeaves p input out report status
+
+pub data DecodeLeaves (p : Parts) (input : SourceCall) (out report : SinkCall) (status : Status) : Type 0 where
+  decoded : Decoded p input out report status → DecodeLeaves p input out report status
+  undecoded : status ≡ NoMemory → Untouched input out report → DecodeLeaves p input out report status
 
 abbrev pub ServeLeaves : Words → Command → Parts → SourceCall → SinkCall → SinkCall → Status → Type 0
-ServeLeaves asked Encode p input out report status = EncodeLeaves p input out status × IsUngiven report
+ServeLeaves asked Encode p input out report status = EncodeLeaves p input out report status
 ServeLeaves asked Decode p input out report status = DecodeLeaves p input out report status
-ServeLeaves asked command p input out report status =
-    AnswerLeaves asked command p input out status × IsUngiven report
+ServeLeaves asked command p input out report status = AnswerLeaves asked command p input out report status
 
-abbrev pub CompileAndServeLeaves : Words → Command → Parts → SourceCall → SinkCall → SinkCall → Status → Type 0
-CompileAndServeLeaves asked command p input out report (Descriptor cause) =
-    RefusesParts command p cause × IsUntaken input × IsUngiven out × IsUngiven report
-CompileAndServeLeaves asked command p input out report NoMemory = NoMemoryLeaves command input out report
-CompileAndServeLeaves asked command p input out report status =
-    ((cause : DescCause) → RefusesParts command p cause → ⊥) × ServeLeaves asked command p input out report status
+pub data CompileAndServe (asked : Words) (command : Command) (p : Parts) (input : SourceCall) (out report : SinkCall)
+    (status : Status) : Type 0 where
+  no_code : (cause : DescCause) → status ≡ Descriptor cause → RefusesParts command p cause →
+      Untouched input out report → CompileAndServe asked command p input out report status
+  not_made : status ≡ NoMemory → Untouched input out report → CompileAndServe asked command p input out report status
+  made : ((cause : DescCause) → RefusesParts command p cause → ⊥) →
+      ServeLeaves asked command p input out report status → CompileAndServe asked command p input out report status
 
 pub record ServesDescribed (asked : Words) (command : Command) (c : Call) (status : Status) : Type 0 where
   pub parts : Parts
   pub accepted : IsTrue c.desc.tells → Accepts command c.desc.before.left parts
+  pub desc_well : ReadsWell c.desc
   pub leaves : ServeLeaves asked command parts c.input c.out c.report status
 
-abbrev pub CarryOutLeaves : Words → Command → Call → Status → Type 0
-CarryOutLeaves asked command c Usage = ⊥
-CarryOutLeaves asked command c DescFault =
-    ReadFailed c.desc × IsUntaken c.input × IsUngiven c.out × IsUngiven c.report
-CarryOutLeaves asked command c (Descriptor cause) =
-    (IsTrue c.desc.tells → Refuses command c.desc.before.left cause)
-    × IsUntaken c.input × IsUngiven c.out × IsUngiven c.report
-CarryOutLeaves asked command c NoMemory = NoMemoryLeaves command c.input c.out c.report
-CarryOutLeaves asked command c status = ServesDescribed asked command c status
+pub data CarryOutLeaves (asked : Words) (command : Command) (c : Call) (status : Status) : Type 0 where
+  unread : status ≡ DescFault → ReadFailed c.desc → Untouched c.input c.out c.report →
+      CarryOutLeaves asked command c status
+  refused : (cause : DescCause) → status ≡ Descriptor cause →
+      (IsTrue c.desc.tells → Refuses command c.desc.before.left cause) → ReadsWell c.desc →
+      Untouched c.input c.out c.report → CarryOutLeaves asked command c status
+  unserved : status ≡ NoMemory → ReadsWell c.desc → Untouched c.input c.out c.report →
+      CarryOutLeaves asked command c status
+  served : ServesDescribed asked command c status → CarryOutLeaves asked command c status
 
 pub record RefusesWords (texts : List (List ℕ)) (c : Call) (status : Status) : Type 0 where
   pub nobody : OnWords texts (λ w. ⊥)
   pub status_is : status ≡ Usage
-  pub input_still : IsUntaken c.input
-  pub out_still : IsUngiven c.out
-  pub report_still : IsUngiven c.report
+  pub desc_still : c.desc.after ≡ c.desc.before
+  pub still : Untouched c.input c.out c.report
 
 pub record CarriesOutWords (texts : List (List ℕ)) (c : Call) (status : Status) : Type 0 where
   pub words : Words

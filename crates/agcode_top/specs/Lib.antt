@@ -1,6 +1,7 @@
 pub mod Calls
 pub mod Statuses
 pub mod Lines
+pub mod Design
 pub mod Commands
 pub mod Streams
 pub mod Headline
@@ -8,3 +9,5 @@ pub mod Texts
 pub mod Inputs
 pub mod Steps
 pub mod Leaves
+pub mod Erase
+pub mod Filled

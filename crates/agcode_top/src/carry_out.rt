@@ -6,13 +6,15 @@ ghost use Rattle.agcode_top.specs.Calls.{call, source_call, TakesAtMost};
 ghost use Rattle.agcode_top.specs.Leaves.{CarryOutLeaves};
 
 use crate::compile_and_serve::compile_and_serve;
+use crate::design::design;
+use crate::needs::{Needs, needs_of};
 use crate::points::points;
 use crate::status::Status;
 use crate::text::{TextFault, read_text};
 use ag_io::{Sink, Source};
 use ag_pool::Gate;
 use code_descriptor::{DescError, MOST_TEXT, read};
-use command_words::{Command, MOST_TRIAL_BYTES, Words};
+use command_words::{MOST_TRIAL_BYTES, MOST_WANTED, Words};
 use std::alloc::Global;
 use std::thread::Threads;
 
@@ -29,6 +31,7 @@ pub fn carry_out<X: Threads + Sync, D: Source, I: Source, O: Sink, R: Sink, G: G
 ) -> Status
     requires built { is_built asked.now.command ≡ true }
     requires few_bytes { asked.now.bytes ≤ MOST_TRIAL_BYTES }
+    requires few_wanted { asked.now.want ≤ MOST_WANTED }
     ensures leaves { CarryOutLeaves asked.now asked.now.command (call
         D.Source desc.old desc.new I.Source input.old input.new
         O.Sink out.old out.new R.Sink report.old report.new) result }
@@ -48,8 +51,9 @@ pub fn carry_out<X: Threads + Sync, D: Source, I: Source, O: Sink, R: Sink, G: G
         Err(DescError::NoMemory) => return Status::NoMemory,
         Err(DescError::Refused { cause }) => return Status::Descriptor { cause },
     };
-    match asked.command {
-        Command::Points => points(alloc, &descriptor, out),
-        _ => compile_and_serve(rt, alloc, asked, descriptor, input, out, report, gate),
+    match needs_of(asked.command) {
+        Needs::Space => points(alloc, &descriptor, out),
+        Needs::Basis => design(rt, alloc, asked, descriptor, out),
+        Needs::Code => compile_and_serve(rt, alloc, asked, descriptor, input, out, report, gate),
     }
 }

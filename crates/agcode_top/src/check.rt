@@ -1,9 +1,10 @@
 //! Whether the input is the table of the order bound.
 
-ghost use Rattle.std.specs.Prelude.{◌≡◌, ℕ, ◌≤◌, IfOk};
+ghost use Rattle.std.specs.Prelude.{◌≡◌, ℕ, ◌≤◌, IfOk, Bool};
+ghost use Rattle.ag_io.specs.Views.{SinkView};
 ghost use Rattle.command_words.specs.declared.words.Command.TheVariants.{Check};
 ghost use Rattle.command_words.specs.declared.words.Words.{Words};
-ghost use Rattle.agcode_top.specs.Calls.{source_call, sink_call};
+ghost use Rattle.agcode_top.specs.Calls.{source_call, sink_call, still_sink};
 ghost use Rattle.agcode_top.specs.Leaves.{AnswerLeaves};
 ghost use Rattle.agcode_top.specs.Steps.{SaysOf};
 
@@ -40,9 +41,9 @@ pub fn check<I: Source, O: Sink>(
     input: &mut I,
     out: &mut O,
 ) -> Status
-    ensures leaves { (w : Words) → AnswerLeaves w Check described.now
-        (source_call I.Source input.old input.new)
-        (sink_call O.Sink out.old out.new) result }
+    ensures leaves { (w : Words) (tells : Bool) (report : SinkView) →
+        AnswerLeaves w Check described.now (source_call I.Source input.old input.new)
+        (sink_call O.Sink out.old out.new) (still_sink tells report) result }
     ensures input_counted { (I.view input.old).faults ≤ (I.view input.new).faults }
     ensures out_counted { (O.view out.old).faults ≤ (O.view out.new).faults }
 {

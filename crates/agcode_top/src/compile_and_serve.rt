@@ -3,8 +3,9 @@
 ghost use Rattle.std.specs.Prelude.{◌≡◌, ℕ, ◌≤◌, true, false};
 ghost use Rattle.command_words.specs.Built.{is_built};
 ghost use Rattle.agcode_top.specs.Calls.{source_call, sink_call};
-ghost use Rattle.agcode_top.specs.Commands.{takes_no_code};
-ghost use Rattle.agcode_top.specs.Leaves.{CompileAndServeLeaves};
+ghost use Rattle.agcode_top.specs.Commands.{needs};
+ghost use Rattle.agcode_top.specs.declared.needs.Needs.TheVariants.{Code};
+ghost use Rattle.agcode_top.specs.Leaves.{CompileAndServe};
 
 use crate::serve::serve;
 use crate::status::Status;
@@ -28,10 +29,10 @@ pub fn compile_and_serve<X: Threads + Sync, I: Source, O: Sink, R: Sink, G: Gate
     report: &mut R,
     gate: &G,
 ) -> Status
-    requires code { takes_no_code asked.now.command ≡ false }
+    requires code { needs asked.now.command ≡ Code }
     requires built { is_built asked.now.command ≡ true }
     requires few_bytes { asked.now.bytes ≤ MOST_TRIAL_BYTES }
-    ensures leaves { CompileAndServeLeaves asked.now asked.now.command descriptor
+    ensures leaves { CompileAndServe asked.now asked.now.command descriptor
         (source_call I.Source input.old input.new)
         (sink_call O.Sink out.old out.new) (sink_call R.Sink report.old report.new) result }
     ensures input_counted { (I.view input.old).faults ≤ (I.view input.new).faults }

@@ -1,7 +1,8 @@
 //! Files as encoded texts.
 
-ghost use Rattle.std.specs.Prelude.{◌≡◌, ℕ, ◌≤◌, IsTrue};
-ghost use Rattle.agcode_top.specs.Calls.{source_call, sink_call};
+ghost use Rattle.std.specs.Prelude.{◌≡◌, ℕ, ◌≤◌, IsTrue, Bool};
+ghost use Rattle.ag_io.specs.Views.{SinkView};
+ghost use Rattle.agcode_top.specs.Calls.{source_call, sink_call, still_sink};
 ghost use Rattle.agcode_top.specs.Leaves.{EncodeLeaves};
 ghost use Rattle.agcode_top.specs.Streams.{encode_status};
 
@@ -30,9 +31,9 @@ pub fn encode<I: Source, O: Sink>(
     input: &mut I,
     out: &mut O,
 ) -> Status
-    ensures leaves { EncodeLeaves described.now
+    ensures leaves { (tells : Bool) (report : SinkView) → EncodeLeaves described.now
         (source_call I.Source input.old input.new)
-        (sink_call O.Sink out.old out.new) result }
+        (sink_call O.Sink out.old out.new) (still_sink tells report) result }
     ensures input_counted { (I.view input.old).faults ≤ (I.view input.new).faults }
     ensures out_counted { (O.view out.old).faults ≤ (O.view out.new).faults }
 {

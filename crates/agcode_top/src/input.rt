@@ -1,8 +1,8 @@
 //! All of the input.
 
-ghost use Rattle.std.specs.Prelude.{◌≡◌, ℕ, ◌+◌, ◌<◌, ◌≤◌, ◌++◌, length, IsTrue, IfOk, IfErr};
-ghost use Rattle.agcode_top.specs.Calls.{source_call};
-ghost use Rattle.agcode_top.specs.Inputs.{IsInputFault, Took};
+ghost use Rattle.std.specs.Prelude.{◌≡◌, ℕ, ◌%◌, ◌<◌, ◌≤◌, length, IsTrue, IfOk, IfErr};
+ghost use Rattle.agcode_top.specs.Calls.{source_call, IsEnded, ReadsWell};
+ghost use Rattle.agcode_top.specs.Inputs.{IsInputFault, IsFaultAt, Took, TookPiece};
 
 use crate::limit::MOST_TABLE;
 use ag_io::{Filled, Source, fill};
@@ -33,7 +33,8 @@ impl From<AllocError> for InputFault {
 enum Tail {
     More,
     End,
-    Fault,
+    // A read failed after `got` bytes, which are not kept.
+    Fault { got: usize },
 }
 
 // Adds the next piece of the input to a text.
@@ -45,6 +46,7 @@ fn take_piece<I: Source>(
     requires { length piece.old ≡ PIECE }
     ensures took { IfOk result
         (Took (source_call I.Source input.old input.new) text.old.items text.new.items) }
+    ensures piece { IfErr result (λ _. TookPiece (source_call I.Source input.old input.new)) }
     ensures counted { (I.view input.old).faults ≤ (I.view input.new).faults }
 {
     match fill(input, piece) {
@@ -56,22 +58,34 @@ fn take_piece<I: Source>(
             text.extend_from_slice(&piece[..got])?;
             Ok(Tail::End)
         }
-        Filled::Fault { got } => {
-            text.extend_from_slice(&piece[..got])?;
-            Ok(Tail::Fault)
-        }
+        Filled::Fault { got } => Ok(Tail::Fault { got }),
     }
 }
 
-/// Reads all of the input, but no more than one piece beyond the limit.
+// Why an input was not read of which a read failed after so many bytes.
+fn fault_at(limit: usize, taken: usize) -> InputFault
+    ensures { IsFaultAt limit taken result }
+{
+    if taken > limit {
+        return InputFault::TooLong {
+            taken: taken as u64,
+        };
+    }
+    InputFault::Fault
+}
+
+/// Reads all of the input, but no more than one piece beyond the limit, which is a number of whole pieces.
 pub fn read_input<I: Source>(
     alloc: Global,
     limit: usize,
     input: &mut I,
 ) -> Result<Vec<u8>, InputFault>
-    requires { limit ≤ MOST_TABLE }
+    requires most { limit ≤ MOST_TABLE }
+    requires whole { limit % PIECE ≡ 0 }
     ensures all { IfOk result (λ text. IsTrue I.tells → (I.view input.old).left ≡ text.items) }
     ensures within { IfOk result (λ text. length text.items ≤ limit) }
+    ensures ended { IfOk result (λ _. IsEnded (source_call I.Source input.old input.new)) }
+    ensures well { IfOk result (λ _. ReadsWell (source_call I.Source input.old input.new)) }
     ensures fault { IfErr result
         (IsInputFault limit (source_call I.Source input.old input.new)) }
     ensures counted { (I.view input.old).faults ≤ (I.view input.new).faults }
@@ -80,13 +94,14 @@ pub fn read_input<I: Source>(
     let mut piece = [0u8; PIECE];
     while text.len() <= limit {
         let tail = take_piece(&mut text, &mut piece, input)?;
+        if let Tail::Fault { got } = tail {
+            return Err(fault_at(limit, text.len() + got));
+        }
         if text.len() > limit {
             break;
         }
-        match tail {
-            Tail::More => {}
-            Tail::End => return Ok(text),
-            Tail::Fault => return Err(InputFault::Fault),
+        if matches!(tail, Tail::End) {
+            return Ok(text);
         }
     }
     Err(InputFault::TooLong {

@@ -1,9 +1,10 @@
 //! The parameters of a code.
 
-ghost use Rattle.std.specs.Prelude.{◌≡◌, ℕ, ◌≤◌, IfOk};
+ghost use Rattle.std.specs.Prelude.{◌≡◌, ℕ, ◌≤◌, IfOk, Bool};
+ghost use Rattle.ag_io.specs.Views.{SourceView, SinkView};
 ghost use Rattle.command_words.specs.declared.words.Command.TheVariants.{Params};
 ghost use Rattle.command_words.specs.declared.words.Words.{Words};
-ghost use Rattle.agcode_top.specs.Calls.{sink_call, SourceCall};
+ghost use Rattle.agcode_top.specs.Calls.{sink_call, still_source, still_sink};
 ghost use Rattle.agcode_top.specs.Commands.{HasParameters};
 ghost use Rattle.agcode_top.specs.Leaves.{AnswerLeaves};
 
@@ -31,8 +32,9 @@ fn text_of(alloc: Global, described: &DescribedCode) -> Result<Vec<u8>, AllocErr
 
 /// Writes the parameters of a code, on a curve with the normal form of `y^a`.
 pub fn params<O: Sink>(alloc: Global, described: &DescribedCode, out: &mut O) -> Status
-    ensures leaves { (w : Words) (input : SourceCall) → AnswerLeaves w Params described.now input
-        (sink_call O.Sink out.old out.new) result }
+    ensures leaves { (w : Words) (reads tells : Bool) (input : SourceView) (report : SinkView) →
+        AnswerLeaves w Params described.now (still_source reads input)
+        (sink_call O.Sink out.old out.new) (still_sink tells report) result }
     ensures out_counted { (O.view out.old).faults ≤ (O.view out.new).faults }
 {
     match text_of(alloc, described) {

@@ -1,10 +1,11 @@
 //! All points of a space.
 
-ghost use Rattle.std.specs.Prelude.{◌≡◌, ℕ, ◌≤◌, ◌++◌, IfOk, OnOk, IsTrue};
+ghost use Rattle.std.specs.Prelude.{◌≡◌, ℕ, ◌≤◌, ◌++◌, IfOk, OnOk, IsTrue, Bool};
 ghost use Rattle.std.specs.List.{flat_map};
 ghost use Rattle.agcode_top.specs.Commands.{point_text, points_text};
-ghost use Rattle.agcode_top.specs.Calls.{sink_call, SourceCall};
+ghost use Rattle.agcode_top.specs.Calls.{sink_call, still_source, still_sink};
 ghost use Rattle.agcode_top.specs.Leaves.{AnswerLeaves};
+ghost use Rattle.ag_io.specs.Views.{SourceView, SinkView};
 ghost use Rattle.command_words.specs.declared.words.Command.TheVariants.{Points};
 ghost use Rattle.command_words.specs.declared.words.Words.{Words};
 
@@ -53,8 +54,9 @@ fn text_of_points(alloc: Global, descriptor: &Descriptor) -> Result<Vec<u8>, All
 
 /// Writes all points of the space, a line each.
 pub fn points<O: Sink>(alloc: Global, descriptor: &Descriptor, out: &mut O) -> Status
-    ensures leaves { (w : Words) (input : SourceCall) → AnswerLeaves w Points descriptor.now input
-        (sink_call O.Sink out.old out.new) result }
+    ensures leaves { (w : Words) (reads tells : Bool) (input : SourceView) (report : SinkView) →
+        AnswerLeaves w Points descriptor.now (still_source reads input)
+        (sink_call O.Sink out.old out.new) (still_sink tells report) result }
     ensures out_counted { (O.view out.old).faults ≤ (O.view out.new).faults }
 {
     match text_of_points(alloc, descriptor) {

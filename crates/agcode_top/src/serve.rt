@@ -3,12 +3,14 @@
 ghost use Rattle.std.specs.Prelude.{◌≡◌, ℕ, ◌≤◌, true, false};
 ghost use Rattle.command_words.specs.Built.{is_built};
 ghost use Rattle.agcode_top.specs.Calls.{source_call, sink_call};
-ghost use Rattle.agcode_top.specs.Commands.{takes_no_code};
+ghost use Rattle.agcode_top.specs.Commands.{needs};
+ghost use Rattle.agcode_top.specs.declared.needs.Needs.TheVariants.{Code};
 ghost use Rattle.agcode_top.specs.Leaves.{ServeLeaves};
 
 use crate::check::check;
 use crate::decode::decode;
 use crate::encode::encode;
+use crate::erase::erase;
 use crate::member::member;
 use crate::params::params;
 use crate::status::Status;
@@ -33,7 +35,7 @@ pub fn serve<X: Threads + Sync, I: Source, O: Sink, R: Sink, G: Gate>(
     report: &mut R,
     gate: &G,
 ) -> Status
-    requires code { takes_no_code asked.now.command ≡ false }
+    requires code { needs asked.now.command ≡ Code }
     requires built { is_built asked.now.command ≡ true }
     requires few_bytes { asked.now.bytes ≤ MOST_TRIAL_BYTES }
     ensures leaves { ServeLeaves asked.now asked.now.command described.now
@@ -61,6 +63,7 @@ pub fn serve<X: Threads + Sync, I: Source, O: Sink, R: Sink, G: Gate>(
         ),
         Command::Votes => votes(alloc, described, input, out),
         Command::Trial => trial(rt, alloc, asked, described, out),
-        Command::Points | Command::Erase | Command::Design => unreachable!(),
+        Command::Erase => erase(alloc, described, input, out, report),
+        Command::Points | Command::Design => unreachable!(),
     }
 }

@@ -2,7 +2,7 @@
 
 ghost use Rattle.std.specs.Prelude.{◌≡◌, ℕ, ◌+◌, ◌≤◌, ◌++◌, length, IsTrue, IfOk, IfErr};
 ghost use Rattle.code_descriptor.specs.Meaning.{MeansTheSame};
-ghost use Rattle.agcode_top.specs.Calls.{source_call, TakesAtMost};
+ghost use Rattle.agcode_top.specs.Calls.{source_call, ReadsWell, TakesAtMost};
 ghost use Rattle.agcode_top.specs.Texts.{IsReadFault, IsFront};
 
 use ag_io::{Filled, Source, fill};
@@ -33,6 +33,7 @@ impl From<AllocError> for TextFault {
 fn read_at_most<D: Source>(alloc: Global, desc: &mut D, room: usize) -> Result<Vec<u8>, TextFault>
     ensures front { IfOk result (λ text. IsTrue D.tells →
         IsFront room text.items (D.view desc.old).left (D.view desc.new).left) }
+    ensures well { IfOk result (λ _. ReadsWell (source_call D.Source desc.old desc.new)) }
     ensures fault { IfErr result (IsReadFault (source_call D.Source desc.old desc.new)) }
     ensures taken { TakesAtMost room (source_call D.Source desc.old desc.new) }
     ensures counted { (D.view desc.old).faults ≤ (D.view desc.new).faults }
@@ -53,6 +54,7 @@ fn read_at_most<D: Source>(alloc: Global, desc: &mut D, room: usize) -> Result<V
 pub fn read_text<D: Source>(alloc: Global, desc: &mut D) -> Result<Vec<u8>, TextFault>
     ensures text { IfOk result
         (λ text. IsTrue D.tells → MeansTheSame text.items (D.view desc.old).left) }
+    ensures well { IfOk result (λ _. ReadsWell (source_call D.Source desc.old desc.new)) }
     ensures fault { IfErr result (IsReadFault (source_call D.Source desc.old desc.new)) }
     ensures taken { TakesAtMost (MOST_TEXT + 1) (source_call D.Source desc.old desc.new) }
     ensures counted { (D.view desc.old).faults ≤ (D.view desc.new).faults }

@@ -1,13 +1,16 @@
 //! The top call.
 
-ghost use Rattle.std.specs.Prelude.{◌≡◌, ℕ, ◌+◌, ◌≤◌, ◌↔◌, map};
+ghost use Rattle.std.specs.Prelude.{◌≡◌, ℕ, ◌+◌, ◌≤◌, ◌↔◌, map, false};
 ghost use Rattle.std.specs.String.{string_bytes};
 ghost use Rattle.ag_io.specs.Counts.{Rose};
 ghost use Rattle.command_words.specs.declared.words.Command.TheVariants.{Encode, Decode};
-ghost use Rattle.agcode_top.specs.Calls.{call, source_call, sink_call, IsUntaken, IsUngiven, TakesAtMost};
-ghost use Rattle.agcode_top.specs.Statuses.{OnWords, OnCommand, IsQuiet, IsEarly, is_streamed};
+ghost use Rattle.agcode_top.specs.Calls.{call, source_call, sink_call, IsUngiven, GivesOrFails, TakesAtMost};
+ghost use Rattle.agcode_top.specs.Statuses.{OnWords, OnCommand, CanEnd, IsQuiet, is_streamed};
+ghost use Rattle.agcode_top.specs.Lines.{line_of};
 ghost use Rattle.agcode_top.specs.Headline.{StoresImage, Repairs, ReadsText, Completes, RefusesBy};
-ghost use Rattle.agcode_top.specs.Headline.{Answers, AnswersPart, EncodesAs, DecodesAs, TellsLine};
+ghost use Rattle.agcode_top.specs.Headline.{Answers, RefusesExactly, AnswersExactly, EncodesAs, DecodesAs};
+ghost use Rattle.agcode_top.specs.Headline.{AnswersPart, AnswersUntold, LeavesUntouched, LeavesUnread};
+ghost use Rattle.agcode_top.specs.Headline.{TellsLine, TakesWithin, TellsNumber, KeepsCounts};
 
 use crate::obey::obey;
 use crate::report::tell;
@@ -41,12 +44,13 @@ pub fn run<X: Threads + Sync, D: Source, I: Source, O: Sink, R: Sink, G: Gate>(
     ensures reading { OnCommand (map string_bytes words.now) Decode (ReadsText (call
         D.Source desc.old desc.new I.Source input.old input.new
         O.Sink out.old out.new R.Sink report.old report.new) result) }
-    ensures complete { OnWords (map string_bytes words.now) (λ w. Completes w.command (call
+    ensures complete { OnWords (map string_bytes words.now) (λ w. Completes w (call
         D.Source desc.old desc.new I.Source input.old input.new
         O.Sink out.old out.new R.Sink report.old report.new) result) }
 
-    // Each status only by its cause.
+    // Each status only by its cause, and of the statuses of its command.
     ensures usage { (result ≡ Status.Usage) ↔ OnWords (map string_bytes words.now) (λ w. ⊥) }
+    ensures own { OnWords (map string_bytes words.now) (λ w. CanEnd result w.command) }
     ensures descriptor { OnWords (map string_bytes words.now)
         (λ w. RefusesBy w.command (source_call D.Source desc.old desc.new) result) }
     ensures desc_fault { result ≡ Status.DescFault →
@@ -63,6 +67,13 @@ pub fn run<X: Threads + Sync, D: Source, I: Source, O: Sink, R: Sink, G: Gate>(
         D.Source desc.old desc.new I.Source input.old input.new
         O.Sink out.old out.new R.Sink report.old report.new) result) }
 
+    // A refusal wherever there is one, and an answer wherever it is what the command says.
+    ensures refused { OnWords (map string_bytes words.now)
+        (λ w. RefusesExactly w.command (source_call D.Source desc.old desc.new) result) }
+    ensures exactly { OnWords (map string_bytes words.now) (λ w. AnswersExactly w (call
+        D.Source desc.old desc.new I.Source input.old input.new
+        O.Sink out.old out.new R.Sink report.old report.new) result) }
+
     // All that encode and decode leave, by the status that they end with.
     ensures encoded { OnCommand (map string_bytes words.now) Encode (EncodesAs (call
         D.Source desc.old desc.new I.Source input.old input.new
@@ -71,16 +82,38 @@ pub fn run<X: Threads + Sync, D: Source, I: Source, O: Sink, R: Sink, G: Gate>(
         D.Source desc.old desc.new I.Source input.old input.new
         O.Sink out.old out.new R.Sink report.old report.new) result) }
 
-    // What stands on out, on report and in the sources after a refusal.
+    // What stands on out, on report and in the sources after a refusal or a fault.
     ensures part { OnWords (map string_bytes words.now) (λ w. AnswersPart w (call
         D.Source desc.old desc.new I.Source input.old input.new
         O.Sink out.old out.new R.Sink report.old report.new) result) }
+    ensures untold { OnWords (map string_bytes words.now) (λ w. AnswersUntold w (call
+        D.Source desc.old desc.new I.Source input.old input.new
+        O.Sink out.old out.new R.Sink report.old report.new) result) }
     ensures quiet { OnWords (map string_bytes words.now) (λ w.
-        IsQuiet (is_streamed w.command) result → IsUngiven (sink_call O.Sink out.old out.new)) }
-    ensures early { IsEarly result → IsUntaken (source_call I.Source input.old input.new) }
-    ensures line { TellsLine (map string_bytes words.now)
-        (sink_call R.Sink report.old report.new) result }
+        is_streamed w.command ≡ false → IsQuiet result →
+        IsUngiven (sink_call O.Sink out.old out.new)) }
+    ensures early { LeavesUntouched (call
+        D.Source desc.old desc.new I.Source input.old input.new
+        O.Sink out.old out.new R.Sink report.old report.new) result }
+    ensures unread { OnWords (map string_bytes words.now) (λ w. LeavesUnread w.command
+        (source_call I.Source input.old input.new) result) }
+    ensures line { OnWords (map string_bytes words.now) (λ w. TellsLine w.command
+        (sink_call R.Sink report.old report.new) result) }
+    ensures usage_line { result ≡ Status.Usage →
+        GivesOrFails (sink_call R.Sink report.old report.new) (line_of result) }
+
+    // How much is taken.
     ensures desc_taken { TakesAtMost (MOST_TEXT + 1) (source_call D.Source desc.old desc.new) }
+    ensures taken { OnWords (map string_bytes words.now) (λ w. TakesWithin w.command (call
+        D.Source desc.old desc.new I.Source input.old input.new
+        O.Sink out.old out.new R.Sink report.old report.new)) }
+    ensures number { TellsNumber (source_call I.Source input.old input.new) result }
+
+    // A call that fails ends the command.
+    ensures kept { OnWords (map string_bytes words.now) (λ w.
+        is_streamed w.command ≡ false → KeepsCounts (call
+        D.Source desc.old desc.new I.Source input.old input.new
+        O.Sink out.old out.new R.Sink report.old report.new) result) }
 
     // Counts of faults never fall.
     ensures desc_counted { (D.view desc.old).faults ≤ (D.view desc.new).faults }

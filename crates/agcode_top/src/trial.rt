@@ -1,8 +1,9 @@
 //! A trial of a code.
 
-ghost use Rattle.std.specs.Prelude.{◌≡◌, ℕ, ◌≤◌};
+ghost use Rattle.std.specs.Prelude.{◌≡◌, ℕ, ◌≤◌, Bool};
+ghost use Rattle.ag_io.specs.Views.{SourceView, SinkView};
 ghost use Rattle.command_words.specs.declared.words.Command.TheVariants.{Trial};
-ghost use Rattle.agcode_top.specs.Calls.{sink_call, SourceCall};
+ghost use Rattle.agcode_top.specs.Calls.{sink_call, still_source, still_sink};
 ghost use Rattle.agcode_top.specs.Leaves.{AnswerLeaves};
 
 use crate::status::Status;
@@ -24,8 +25,9 @@ pub fn trial<X: Threads + Sync, O: Sink>(
     out: &mut O,
 ) -> Status
     requires few_bytes { asked.now.bytes ≤ MOST_TRIAL_BYTES }
-    ensures leaves { (input : SourceCall) → AnswerLeaves asked.now Trial described.now input
-        (sink_call O.Sink out.old out.new) result }
+    ensures leaves { (reads tells : Bool) (input : SourceView) (report : SinkView) →
+        AnswerLeaves asked.now Trial described.now (still_source reads input)
+        (sink_call O.Sink out.old out.new) (still_sink tells report) result }
     ensures out_counted { (O.view out.old).faults ≤ (O.view out.new).faults }
 {
     let code = described.code();

@@ -11,7 +11,7 @@ use Rattle.command_words.specs.declared.words.OptionName.{OptionName}
 use Rattle.command_words.specs.declared.words.Settings.{Settings}
 use Rattle.command_words.specs.declared.words.FlagName.{FlagName}
 use Rattle.command_words.specs.declared.words.Words.{Words}
-use Rattle.command_words.specs.Built.{is_built, is_option_built, is_flag_built}
+use Rattle.command_words.specs.Built.{is_built, is_flag_built}
 use Rattle.command_words.specs.Options.{command_word, option_word, flag_word, has_option, has_flag, no_settings, setting_of, with_setting, least_of, greatest_of, flag_of, with_flag}
 use Rattle.command_words.specs.Laws.{CommandLinesAreRead}
 use Rattle.command_words.specs.Reading.{command_named, flag_named, has_equals, is_flag_word, name_part, value_part, added, flagged, flagged_by, settings_in, words_of, is_path}
@@ -27,7 +27,6 @@ and_then-gives f (Some s) t e = (s, refl, e)
 joined-setting : (command : Command) (s t : Settings) (word : List ℕ) → has_equals word ≡ true → (a : Adds command s (name_part word) (value_part word) t) → IsSetting command a.name a.value (word ∷ [])
 joined-setting command s t word h a = record {
   allowed = a.allowed;
-  built = a.built;
   digits = value_part word;
   numeral = a.number.numeral;
   value_is = a.number.value;
@@ -40,7 +39,6 @@ joined-setting command s t word h a = record {
 apart-setting : (command : Command) (s t : Settings) (word text : List ℕ) → (a : Adds command s word text t) → IsSetting command a.name a.value (word ∷ text ∷ [])
 apart-setting command s t word text a = record {
   allowed = a.allowed;
-  built = a.built;
   digits = text;
   numeral = a.number.numeral;
   value_is = a.number.value;
@@ -118,28 +116,28 @@ number_of : (command : Command) (name : OptionName) (value : ℕ) (front : List 
 number_of command name value front h = record { numeral = h.numeral; value = h.value_is; at_least = h.at_least; at_most = h.at_most }
 
 joined-found : (command : Command) (s u : Settings) (name : OptionName) (value : ℕ) (digits : List ℕ) (rest : List (List ℕ)) → has_option command name ≡ true →
-    is_option_built name ≡ true → setting_of s name ≡ None →
+    setting_of s name ≡ None →
     IsNumberIn (least_of name) (greatest_of name) digits value → settings_in command (with_setting s name value) rest ≡ Some u →
     settings_in command s ((option_word name ++ codes "=" ++ digits) ∷ rest) ≡ Some u
-joined-found command s u name value digits [] a b f n e =
+joined-found command s u name value digits [] a f n e =
     if_true (has_equals (option_word name ++ codes "=" ++ digits)) _ _ (has_equals-joined name digits)
     ∙ ap (λ (w : List ℕ). added command s w (value_part (option_word name ++ codes "=" ++ digits))) (name_part-joined name digits)
     ∙ ap (λ (w : List ℕ). added command s (option_word name) w) (value_part-joined name digits)
-    ∙ added-from command s name value digits a b f n ∙ e
-joined-found command s u name value digits (next ∷ rest) a b f n e =
+    ∙ added-from command s name value digits a f n ∙ e
+joined-found command s u name value digits (next ∷ rest) a f n e =
     if_true (has_equals (option_word name ++ codes "=" ++ digits)) _ _ (has_equals-joined name digits)
     ∙ ap (λ (w : List ℕ). option_and_then (λ t. settings_in command t (next ∷ rest)) (added command s w (value_part (option_word name ++ codes "=" ++ digits)))) (name_part-joined name digits)
     ∙ ap (λ (w : List ℕ). option_and_then (λ t. settings_in command t (next ∷ rest)) (added command s (option_word name) w)) (value_part-joined name digits)
-    ∙ ap (λ (o : Option Settings). option_and_then (λ t. settings_in command t (next ∷ rest)) o) (added-from command s name value digits a b f n) ∙ e
+    ∙ ap (λ (o : Option Settings). option_and_then (λ t. settings_in command t (next ∷ rest)) o) (added-from command s name value digits a f n) ∙ e
 
 apart-found : (command : Command) (s u : Settings) (name : OptionName) (value : ℕ) (digits : List ℕ) (rest : List (List ℕ)) → has_option command name ≡ true →
-    is_option_built name ≡ true → setting_of s name ≡ None →
+    setting_of s name ≡ None →
     IsNumberIn (least_of name) (greatest_of name) digits value → settings_in command (with_setting s name value) rest ≡ Some u →
     settings_in command s (option_word name ∷ digits ∷ rest) ≡ Some u
-apart-found command s u name value digits rest a b f n e =
+apart-found command s u name value digits rest a f n e =
     if_false (has_equals (option_word name)) _ _ (has_equals-word name)
     ∙ if_false (is_flag_word (option_word name)) _ _ (is_flag_word-option name)
-    ∙ ap (λ (o : Option Settings). option_and_then (λ t. settings_in command t rest) o) (added-from command s name value digits a b f n) ∙ e
+    ∙ ap (λ (o : Option Settings). option_and_then (λ t. settings_in command t rest) o) (added-from command s name value digits a f n) ∙ e
 
 flag-found : (command : Command) (s u : Settings) (name : FlagName) (rest : List (List ℕ)) → has_flag command name ≡ true → is_flag_built name ≡ true → flag_of s name ≡ false →
     settings_in command (with_flag s name) rest ≡ Some u → settings_in command s (flag_word name ∷ rest) ≡ Some u
@@ -160,8 +158,8 @@ settings_in-from command s u words (none {s = v}) = refl
 settings_in-from command s u words (more {front = front} {rest = rest} name value fresh h r) =
     let ih : settings_in command (with_setting s name value) rest ≡ Some u = settings_in-from command (with_setting s name value) u rest r in
     elim h.written [
-      | inl w ↦ ap (λ (f : List (List ℕ)). settings_in command s (f ++ rest)) w ∙ joined-found command s u name value h.digits rest h.allowed h.built fresh (number_of command name value front h) ih
-      | inr w ↦ ap (λ (f : List (List ℕ)). settings_in command s (f ++ rest)) w ∙ apart-found command s u name value h.digits rest h.allowed h.built fresh (number_of command name value front h) ih
+      | inl w ↦ ap (λ (f : List (List ℕ)). settings_in command s (f ++ rest)) w ∙ joined-found command s u name value h.digits rest h.allowed fresh (number_of command name value front h) ih
+      | inr w ↦ ap (λ (f : List (List ℕ)). settings_in command s (f ++ rest)) w ∙ apart-found command s u name value h.digits rest h.allowed fresh (number_of command name value front h) ih
     ]
 settings_in-from command s u words (flag {rest = rest} name fresh allowed built r) =
     flag-found command s u name rest allowed built fresh (settings_in-from command (with_flag s name) u rest r)

@@ -9,7 +9,7 @@ use Rattle.command_words.specs.declared.words.OptionName.{OptionName}
 use Rattle.command_words.specs.declared.words.FlagName.{FlagName}
 use Rattle.command_words.specs.declared.words.Settings.{Settings}
 use Rattle.command_words.specs.Numerals.{is_numeral, value_of}
-use Rattle.command_words.specs.Built.{is_option_built, is_flag_built}
+use Rattle.command_words.specs.Built.{is_flag_built}
 use Rattle.command_words.specs.Options.{option_word, flag_word, has_option, has_flag, least_of, greatest_of, setting_of, with_setting, flag_of, with_flag, number_in, value_in}
 use Rattle.command_words.specs.Reading.{option_named, flag_named, with_value, added_to, added, flagged, flagged_by}
 use Rattle.command_words.proofs.NameLemmas.{option_named-word, option_named-is, flag_named-is}
@@ -45,7 +45,6 @@ pub record Adds (command : Command) (s : Settings) (word text : List ℕ) (t : S
   pub value : ℕ
   pub word_is : word ≡ option_word name
   pub allowed : has_option command name ≡ true
-  pub built : is_option_built name ≡ true
   pub fresh : setting_of s name ≡ None
   pub number : IsNumberIn (least_of name) (greatest_of name) text value
   pub settings : t ≡ with_setting s name value
@@ -66,17 +65,15 @@ added_to-gives : (command : Command) (s : Settings) (o : Option OptionName) (wor
     option_named word ≡ o → added_to command s o text ≡ Some t → Adds command s word text t
 added_to-gives command s None word text t n e = absurd (let k : ⊥ = cc in k)
 added_to-gives command s (Some name) word text t n e =
-    let both : (((has_option command name && is_option_built name) && is_none (setting_of s name)) ≡ true) × (with_value s name (value_in name text) ≡ Some t) =
-    by_test ((has_option command name && is_option_built name) && is_none (setting_of s name)) (with_value s name (value_in name text)) t e in
-    let parts : ((has_option command name && is_option_built name) ≡ true) × (is_none (setting_of s name) ≡ true) = and_parts _ _ both.0 in
-    let had : (has_option command name ≡ true) × (is_option_built name ≡ true) = and_parts _ _ parts.0 in
+    let both : ((has_option command name && is_none (setting_of s name)) ≡ true) × (with_value s name (value_in name text) ≡ Some t) =
+    by_test (has_option command name && is_none (setting_of s name)) (with_value s name (value_in name text)) t e in
+    let parts : (has_option command name ≡ true) × (is_none (setting_of s name) ≡ true) = and_parts _ _ both.0 in
     let found : (v : ℕ) × (value_in name text ≡ Some v) × (t ≡ with_setting s name v) = with_value-gives s t name (value_in name text) both.1 in
     record {
       name = name;
       value = found.0;
       word_is = option_named-is word name n;
-      allowed = had.0;
-      built = had.1;
+      allowed = parts.0;
       fresh = is_none-is (setting_of s name) parts.1;
       number = number_in-gives (least_of name) (greatest_of name) text found.0 found.1;
       settings = found.2;
@@ -86,11 +83,11 @@ pub added-gives : (command : Command) (s : Settings) (word text : List ℕ) (t :
 unfolding added
 added-gives command s word text t e = added_to-gives command s (option_named word) word text t refl e
 
-pub added-from : (command : Command) (s : Settings) (name : OptionName) (value : ℕ) (text : List ℕ) → has_option command name ≡ true → is_option_built name ≡ true →
+pub added-from : (command : Command) (s : Settings) (name : OptionName) (value : ℕ) (text : List ℕ) → has_option command name ≡ true →
     setting_of s name ≡ None → IsNumberIn (least_of name) (greatest_of name) text value → added command s (option_word name) text ≡ Some (with_setting s name value)
 unfolding added
-added-from command s name value text h b f n =
-    rw (option_named-word name) (rw h (rw b (rw f (rw (number_in-from (least_of name) (greatest_of name) text value n) refl))))
+added-from command s name value text h f n =
+    rw (option_named-word name) (rw h (rw f (rw (number_in-from (least_of name) (greatest_of name) text value n) refl)))
 
 -- what a flag adds
 pub record Flags (command : Command) (s : Settings) (word : List ℕ) (t : Settings) : Type 0 where

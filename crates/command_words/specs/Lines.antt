@@ -13,12 +13,11 @@ use Rattle.command_words.specs.declared.words.FlagName.TheVariants.{Salvage}
 use Rattle.command_words.specs.declared.words.Words.{Words}
 use Rattle.command_words.specs.declared.words.Settings.{Settings}
 use Rattle.command_words.specs.Numerals.{is_numeral, value_of}
-use Rattle.command_words.specs.Built.{is_built, is_option_built, is_flag_built}
+use Rattle.command_words.specs.Built.{is_built, is_flag_built}
 use Rattle.command_words.specs.Options.{command_word, option_word, flag_word, has_option, has_flag, least_of, greatest_of, default_of, no_settings, setting_of, with_setting, flag_of, with_flag}
 
 pub record IsSetting (command : Command) (name : OptionName) (value : ℕ) (words : List (List ℕ)) : Type 0 where
   pub allowed : has_option command name ≡ true
-  pub built : is_option_built name ≡ true
   pub digits : List ℕ
   pub numeral : is_numeral digits ≡ true
   pub value_is : value ≡ value_of digits

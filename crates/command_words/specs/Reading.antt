@@ -6,7 +6,7 @@
 -- value_part       what stands after the first `=`
 -- with_value       settings with a value, where there is one
 -- added_to         some settings with an option and the value that a text writes, where the command has that option, it
---                  is built, it is not written yet and the text writes a value in its range
+--                  is not written yet and the text writes a value in its range
 -- added            the same, by the word that names the option
 -- flagged          some settings with a flag, where the command has it, it is built and not written yet
 -- flagged_by       the same, where a flag is named
@@ -26,7 +26,7 @@ use Rattle.command_words.specs.declared.words.FlagName.{FlagName}
 use Rattle.command_words.specs.declared.words.FlagName.TheVariants.{Salvage}
 use Rattle.command_words.specs.declared.words.Words.{Words}
 use Rattle.command_words.specs.declared.words.Settings.{Settings}
-use Rattle.command_words.specs.Built.{is_option_built, is_flag_built}
+use Rattle.command_words.specs.Built.{is_flag_built}
 use Rattle.command_words.specs.Options.{has_option, has_flag, default_of, setting_of, with_setting, flag_of, with_flag, value_in}
 
 unfoldable pub command_named : List ℕ → Option Command
@@ -70,7 +70,7 @@ with_value s name (Some v) = Some (with_setting s name v)
 abbrev pub added_to : Command → Settings → Option OptionName → List ℕ → Option Settings
 added_to command s None text = None
 added_to command s (Some name) text =
-    if (has_option command name && is_option_built name) && is_none (setting_of s name)
+    if has_option command name && is_none (setting_of s name)
     then with_value s name (value_in name text) else None
 
 unfoldable pub added : Command → Settings → List ℕ → List ℕ → Option Settings

@@ -1,22 +1,15 @@
-//! What is built. The other commands and options stand in the types and in the grammar, but are no accepted words yet.
+//! What is built: all commands. A flag that is not stands in the types and in the grammar, but is no accepted word yet.
 
 ghost use Rattle.std.specs.Prelude.{◌≡◌};
-ghost use Rattle.command_words.specs.Built.{is_built, is_option_built as option_is_built, is_flag_built as flag_is_built};
+ghost use Rattle.command_words.specs.Built.{is_built, is_flag_built as flag_is_built};
 
-use crate::words::{Command, FlagName, OptionName};
+use crate::words::{Command, FlagName};
 
 /// Whether a command is built.
 pub fn is_command_built(command: Command) -> bool
     ensures { result ≡ is_built command }
 {
-    !matches!(command, Command::Erase | Command::Design)
-}
-
-/// Whether an option with a value is built.
-pub fn is_option_built(name: OptionName) -> bool
-    ensures { result ≡ option_is_built name }
-{
-    !matches!(name, OptionName::Want)
+    true
 }
 
 /// Whether a flag is built.

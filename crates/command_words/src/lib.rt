@@ -2,7 +2,8 @@
 //! words are accepted is the relation `IsCommandLine` of `specs/Lines`; `read_words` finds what they say.
 //!
 //! All commands and options stand in the types and in the grammar. `specs/Built` and `built.rt` say which of them are
-//! accepted words already: the three tests there are all that changes when a command or an option is built.
+//! accepted words already: the two tests there are all that changes when a command or a flag is built. An option with a value is built
+//! with its command.
 #![tactic(auto)]
 
 mod built;

@@ -1,6 +1,5 @@
-use crate::numeral::read_numeral;
-use crate::options::{command_named, flag_named, has_flag, has_option, option_named};
-use crate::words::{FlagName, MOST_WANTED, OptionName};
+use crate::options::{flag_named, has_flag, option_named};
+use crate::words::FlagName;
 use crate::{Command, Words, read_words};
 use ag_pool::Workers;
 use std::alloc::{AllocError, Global};
@@ -28,6 +27,14 @@ fn commands_without_options(rt: HostRuntime) -> Result<(), Fail> {
     assert_eq!(rt; read(alloc, "member D")?, Some(expected));
     // an empty path is a path
     assert_eq!(rt; read(alloc, "member ")?, Some(expected));
+    let command = Command::Erase;
+    assert_eq!(rt;
+        read(alloc, "erase D")?,
+        Some(Words {
+            command,
+            ..expected
+        })
+    );
     for line in [
         "member",
         "frob D",
@@ -36,6 +43,7 @@ fn commands_without_options(rt: HostRuntime) -> Result<(), Fail> {
         "member D D",
         "Member D",
         "member --seed 1 D",
+        "erase --seed 1 D",
     ] {
         assert_eq!(rt; read(alloc, line)?, None, "{line}");
     }
@@ -101,12 +109,34 @@ fn workers_of_a_decoding(rt: HostRuntime) -> Result<(), Fail> {
 }
 
 #[test]
+fn what_a_design_is_wanted_for(rt: HostRuntime) -> Result<(), Fail> {
+    let alloc = rt.alloc();
+    for (line, want) in [
+        ("design D", 1),
+        ("design --want 0 D", 0),
+        ("design --want=0511 D", 511),
+    ] {
+        let words = read(alloc, line)?.ok_or("accepted")?;
+        assert_eq!(rt; words.command, Command::Design, "{line}");
+        assert_eq!(rt; words.want, want, "{line}");
+    }
+    for line in [
+        "design --want 512 D",
+        "design --want -1 D",
+        "design --want 2 --want 2 D",
+        "design --workers 2 D",
+        "trial --want 2 D",
+        "params --want 2 D",
+    ] {
+        assert_eq!(rt; read(alloc, line)?, None, "{line}");
+    }
+    Ok(())
+}
+
+#[test]
 fn what_is_not_built_is_refused(rt: HostRuntime) -> Result<(), Fail> {
     let alloc = rt.alloc();
     for line in [
-        "erase D",
-        "design D",
-        "design --want 2 D",
         "decode --salvage D",
         "decode --salvage --workers 2 D",
         "decode --workers 2 --salvage D",
@@ -122,18 +152,10 @@ fn what_is_not_built_is_refused(rt: HostRuntime) -> Result<(), Fail> {
 
 #[test]
 fn the_grammar_of_what_is_not_built(rt: HostRuntime) -> Result<(), Fail> {
-    assert_eq!(rt; command_named("erase"), Some(Command::Erase));
-    assert_eq!(rt; command_named("design"), Some(Command::Design));
-    assert_eq!(rt; option_named("--want"), Some(OptionName::Want));
-    assert!(rt; has_option(Command::Design, OptionName::Want));
-    assert!(rt; !has_option(Command::Trial, OptionName::Want));
     assert_eq!(rt; flag_named("--salvage"), Some(FlagName::Salvage));
     assert_eq!(rt; flag_named("--salvage=1"), None);
     assert_eq!(rt; option_named("--salvage"), None);
     assert!(rt; has_flag(Command::Decode, FlagName::Salvage));
     assert!(rt; !has_flag(Command::Encode, FlagName::Salvage));
-    let most = u64::from(MOST_WANTED);
-    assert_eq!(rt; read_numeral(0, most, b"0511"), Some(511));
-    assert_eq!(rt; read_numeral(0, most, b"512"), None);
     Ok(())
 }

@@ -7,7 +7,7 @@ ghost use Rattle.command_words.specs.Options.{least_of as least_value, greatest_
 ghost use Rattle.command_words.specs.Reading.{added as added_settings, flagged as flagged_settings, settings_in as settings_of_words, has_equals, name_part, value_part, is_path as path_test};
 ghost use Rattle.command_words.specs.Lines.{IsCommandLine};
 
-use crate::built::{is_command_built, is_flag_built, is_option_built};
+use crate::built::{is_command_built, is_flag_built};
 use crate::numeral::read_numeral;
 use crate::options::{
     command_named, flag_named, greatest_of, has_flag, has_option, least_of, option_named,
@@ -145,7 +145,7 @@ fn added(command: Command, settings: Settings, name: &str, text: &str) -> Option
     ensures { result ≡ added_settings command settings name.now text.now }
 {
     let name = option_named(name)?;
-    if !has_option(command, name) || !is_option_built(name) || settings.has(name) {
+    if !has_option(command, name) || settings.has(name) {
         return None;
     }
     let value = read_numeral(least_of(name), greatest_of(name), text.as_bytes())?;

@@ -5,9 +5,8 @@ pub returns-in_default-clause-leaves : goal.returns-in_default-clause-leaves
 returns-in_default-clause-leaves g c = inl (record {
   nobody = λ w k. c.in_default.ensures.value w k;
   status_is = refl;
-  input_still = λ told. refl;
-  out_still = λ told. refl;
-  report_still = λ told. refl;
+  desc_still = refl;
+  still = record { input_still = refl; out_still = refl; report_still = refl };
 })
 
 pub returns-clause-leaves : goal.returns-clause-leaves

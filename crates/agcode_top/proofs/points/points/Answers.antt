@@ -1,0 +1,6 @@
+use Rattle.agcode_top.proofs.WordLemmas.{points-has}
+use Rattle.agcode_top.proofs.points.points.Goals as goal
+
+pub returns-in-Ok-clause-leaves : goal.returns-in-Ok-clause-leaves
+returns-in-Ok-clause-leaves g c = λ w reads tells input report.
+    points-has w c.args.descriptor.now reads tells input _ report c.in-Ok.text.items _ _ c.in-Ok.ensures c.deref.ensures.value c.answer.ensures.leaves
