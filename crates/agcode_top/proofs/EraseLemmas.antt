@@ -207,7 +207,7 @@ module _ (ws : Words) (p : Parts) (input : SourceCall) (out report : SinkCall) (
   erase-read status (fills text told h (out_failed e w still)) =
       out_stopped (record { status_is = e; answer = Done; text = text; told = told; saying = said-of Done text told h; has = refl; written = w; report_still = still })
   erase-read status (fills text told h (report_failed e w r)) =
-      report_stopped (record { status_is = e; tells = refl; more = tt; answer = Done; text = text; told = told; saying = said-of Done text told h; written = w; reported = r })
+      report_stopped (record { status_is = e; tells = refl; more = tt; answer = Done; text = text; told = told; saying = said-of Done text told h; has = refl; written = w; reported = r })
   erase-read status (fills text told h (memory_wanted e o r)) = wanting (record { status_is = e; most = within; read_well = well; out_still = o; report_still = r })
   erase-read status (fills_nothing h o r) = said (record { text = []; told = []; saying = said-of status [] [] h; written = still-writes out o; reported = still-writes report r })
   erase-read status (fill_wants e o r) = wanting (record { status_is = e; most = within; read_well = well; out_still = o; report_still = r })

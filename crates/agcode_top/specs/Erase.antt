@@ -6,12 +6,11 @@
 -- IsOtherLength     an input is longer or shorter than a word and its marks; what was taken of it
 -- SaysErase         how erase ends, with the filled word on out and its lines on report
 -- IsFillable        an input is a word and its marks, and one codeword has the symbols that are not lost
--- IsLoss            an input is a codeword of which fewer positions than the bound are lost, and their marks
-use Rattle.std.specs.Prelude.{◌≡◌, ◌≢◌, ℕ, ◌+◌, ◌*◌, ◌<◌, ◌≤◌, min, Bool, List, [], length, take, drop, All}
+use Rattle.std.specs.Prelude.{◌≡◌, ◌≢◌, ℕ, ◌+◌, ◌*◌, ◌≤◌, min, Bool, List, [], length, take, drop, All}
 use Rattle.code_descriptor.specs.Parts.{Parts}
 use Rattle.descriptor_code.specs.Plain.{checks, bound}
 use Rattle.code_texts.specs.Texts.{filled_text_of}
-use Rattle.erase_code.specs.Filling.{lost_count, Fits, IsOnlyFit, IsLeastDifference, HasNoFit}
+use Rattle.erase_code.specs.Filling.{lost_count, IsOnlyFit, IsLeastDifference, HasNoFit}
 use Rattle.erase_code.specs.Marks.{IsBadMark, lost_by, positions_of}
 use Rattle.agcode_top.specs.declared.status.Status.{Status}
 use Rattle.agcode_top.specs.declared.status.Status.TheVariants.{Done, WordLength, BadMark, NoCodeword, Ambiguous}
@@ -56,8 +55,3 @@ pub record IsFillable (p : Parts) (input : List ℕ) : Type 0 where
   pub marked : IsMarkedWord p input
   pub word : List ℕ
   pub only : IsOnlyFit (checks p) (word_in p input) (lost_in p input) word
-
-pub record IsLoss (p : Parts) (input word : List ℕ) : Type 0 where
-  pub marked : IsMarkedWord p input
-  pub fits : Fits (checks p) (word_in p input) (lost_in p input) word
-  pub few : lost_count (lost_in p input) < bound p

@@ -142,7 +142,6 @@ IsValid asked Votes p input = IsNearCode p input
 IsValid asked Trial p input = Unit {0}
 IsValid asked Erase p input = IsFillable p input
 IsValid asked Design p input = HasMany p asked.want
-IsValid asked _ p input = ⊥
 
 abbrev pub Completes : Words → Call → Status → Type 0
 Completes asked c status =
