@@ -37,6 +37,8 @@ mod packed_rows;
 #[cfg(test)]
 mod rig;
 #[cfg(test)]
+mod salvage_rows;
+#[cfg(test)]
 mod status_rows;
 #[cfg(test)]
 mod trial_rows;
