@@ -43,4 +43,6 @@ mod status_rows;
 #[cfg(test)]
 mod trial_rows;
 #[cfg(test)]
+mod turn_rows;
+#[cfg(test)]
 mod word_rows;
