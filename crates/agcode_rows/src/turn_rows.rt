@@ -162,6 +162,19 @@ fn encode_stops_after_the_groups_it_has(rt: HostRuntime) -> Result<(), Fail> {
     Ok(())
 }
 
+// The rows are met with 1 and with 8 workers.
+fn assert_decodes<X: Threads + Sync>(rt: &X, alloc: Global, rows: &[Row]) -> Result<(), Fail> {
+    for line in ["decode D", "decode --workers 8 D"] {
+        for row in rows {
+            let row = Row { line, ..*row };
+            if !is_met(rt, alloc, &row)? {
+                return Err(Fail::new(line));
+            }
+        }
+    }
+    Ok(())
+}
+
 // decode of a text, group by group, whose input or report fails at a call, after this much of the file.
 fn decoding<'a>(text: &'a [u8], ends: Ends<'a>, status: Status, out: &'a [u8]) -> Row<'a> {
     let report = match status {
@@ -212,11 +225,5 @@ fn decode_stops_after_the_bytes_it_is_sure_of(rt: HostRuntime) -> Result<(), Fai
         decoding(&zeros, reads(&[5]), unread, &[0; 3]),
         decoding(&zeros, tells(&[0]), untold, &[0; 3]),
     ];
-    for line in ["decode D", "decode --workers 8 D"] {
-        for row in rows {
-            let row = Row { line, ..row };
-            assert!(rt; is_met(&rt, rt.alloc(), &row)?, "{line}");
-        }
-    }
-    Ok(())
+    assert_decodes(&rt, rt.alloc(), &rows)
 }
