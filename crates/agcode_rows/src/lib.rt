@@ -37,8 +37,12 @@ mod packed_rows;
 #[cfg(test)]
 mod rig;
 #[cfg(test)]
+mod salvage_rows;
+#[cfg(test)]
 mod status_rows;
 #[cfg(test)]
 mod trial_rows;
+#[cfg(test)]
+mod turn_rows;
 #[cfg(test)]
 mod word_rows;

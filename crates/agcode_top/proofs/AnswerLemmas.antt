@@ -1,49 +1,25 @@
 -- What the commands that write one text say
-use Rattle.std.proofs.Common.{◌≡◌, ℕ, ◌+◌, ◌-◌, ◌^◌, ◌<◌, ◌≤◌, ◌↔◌, List, [], ◌++◌, ◌∷◌, length, true, false, IsTrue, sym, ap, ◌∙◌, refl, inl, inr, ◌⊎◌, subst, arith, Result, Ok, Err, append-nil, length-append}
-use Rattle.std.proofs.lemmas.Bool.{cases_lt}
+use Rattle.std.proofs.Common.{◌≡◌, ℕ, ◌+◌, ◌<◌, ◌≤◌, List, [], ◌++◌, length, true, false, IsTrue, sym, ap, ◌∙◌, inl, inr, ◌⊎◌, subst, arith}
 use Rattle.ag_io.specs.Counts.{Rose}
-use Rattle.ag_io.specs.Views.{SourceView, SinkView, GaveFront}
+use Rattle.ag_io.specs.Views.{SinkView, GaveFront}
 use Rattle.command_words.specs.declared.words.Command.{Command}
 use Rattle.command_words.specs.declared.words.Words.{Words}
-use Rattle.command_words.specs.Lines.{IsCommandLine}
-use Rattle.command_words.proofs.LineLemmas.{line-says}
 use Rattle.command_words.specs.declared.words.Command.TheVariants.{Member, Points, Params, Bound, Check, Encode, Decode, Votes, Trial, Erase, Design}
-use Rattle.order_domain.specs.declared.Point.{Point}
-use Rattle.stored_form.specs.Form.{Form}
-use Rattle.stored_form.specs.Reading.{Reading, File, reading}
-use Rattle.stream_codec.specs.declared.encode.EncodeCounts.{EncodeCounts}
-use Rattle.stream_codec.specs.declared.encode.EncodeFault.{EncodeFault}
-use Rattle.stream_codec.specs.declared.encode.EncodeFault.TheVariants as encoding
-use Rattle.stream_codec.specs.declared.decode.DecodeCounts.{DecodeCounts}
-use Rattle.stream_codec.specs.declared.decode.DecodeFault.{DecodeFault}
-use Rattle.stream_codec.specs.declared.decode.DecodeFault.TheVariants as decoding
-use Rattle.stored_form.specs.Frame.{group_bytes}
-use Rattle.stream_codec.specs.declared.limits.TheConstants.{PIECE}
-use Rattle.stream_codec.specs.Encoded.{Encode as EncodeCall, EncodeFaultAs, EncodeToldAs}
-use Rattle.stream_codec.specs.Decoding.{Decode as DecodeCall, FaultAs, ToldAs, answer_by, answer_to}
-use Rattle.stream_codec.specs.Report.{counts_of}
-use Rattle.code_descriptor.specs.declared.DescCause.{DescCause}
 use Rattle.code_descriptor.specs.Parts.{Parts}
-use Rattle.code_descriptor.proofs.OneMeaning.{one_meaning}
-use Rattle.descriptor_code.specs.Plain.{plain_form}
-use Rattle.stream_codec.specs.declared.limits.TheConstants.{MOST_BYTES}
 use Rattle.agcode_top.specs.declared.limit.TheConstants.{MOST_TABLE}
-use Rattle.code_descriptor.specs.declared.DescCause.TheVariants.{TooLarge, NotToml, BadKey, BadField, BadDegrees, BadTerm, MissingLead, BadPoint, BadWeight, BadImproved, BadLayout, BadDepth, NoPoints, NothingFree}
 use Rattle.agcode_top.specs.declared.status.Status.{Status}
-use Rattle.agcode_top.specs.declared.status.Status.TheVariants.{Done, NotCodeword, Beyond, Ragged, Framing, TableRefused, WordLength, Usage, Descriptor, TooLong, DescFault, InputFault, OutFault, ReportFault, NoMemory, NoDesign}
-use Rattle.agcode_top.specs.Calls.{Call, SourceCall, SinkCall, Untouched, until, once_given, IsUntaken, IsUngiven, ReadFailed, WriteFailed, ReadsWell, WritesWell, Writes, StopsAt, GivesOrFails, NoneFailed, TakesJust, TakesAtMost}
-use Rattle.agcode_top.specs.Statuses.{OnWords, OnCommand, IsAnswer, IsEarly, IsOwn, IsQuiet, is_streamed, is_passing, has_text, tells_report, reads_input, TellsMore, CanSay, CanStop, CanEnd}
-use Rattle.agcode_top.specs.Commands.{has_points, Refuses, RefusesParts, Accepts, Says, SaysOnOut, SaysMember, SaysCheck, SaysVotes, is_in_code, not_in_code, not_long, is_table, no_table, too_long, is_near, is_far, not_n_long, IsNoWord, IsInputTold, TakesFor, most_taken}
+use Rattle.agcode_top.specs.declared.status.Status.TheVariants.{WordLength, Descriptor, DescFault, InputFault, OutFault, ReportFault, NoMemory, NoDesign}
+use Rattle.agcode_top.specs.Calls.{Call, SourceCall, SinkCall, until, once_given, Writes, StopsAt, GivesOrFails}
+use Rattle.agcode_top.specs.Statuses.{OnWords, IsAnswer, has_text}
+use Rattle.agcode_top.specs.Commands.{Accepts, Says, SaysMember, SaysCheck, SaysVotes, is_in_code, not_in_code, not_long, is_table, no_table, too_long, is_near, is_far, not_n_long, IsNoWord, IsInputTold}
 use Rattle.agcode_top.specs.Lines.{line_of}
-use Rattle.agcode_top.specs.Streams.{Encoded, Decoded, encode_status, decode_status, encode_of, decode_of}
-use Rattle.agcode_top.specs.Leaves.{AnswerLeaves, said, out_stopped, report_stopped, input_stopped, wanting, EncodeLeaves, encoded, unencoded, DecodeLeaves, decoded, undecoded, ServeLeaves, ServesDescribed, CarryOutLeaves, unread, refused, unserved, served, ObeyLeaves}
+use Rattle.agcode_top.specs.Leaves.{AnswerLeaves, said, out_stopped, report_stopped, input_stopped, wanting, ServesDescribed, CarryOutLeaves, unread, refused, unserved, served, ObeyLeaves}
 use Rattle.descriptor_design.proofs.Once.{one_most, not_both}
 use Rattle.agcode_top.specs.Design.{SaysDesign, has_plans, no_plan}
-use Rattle.agcode_top.specs.Headline.{Answers, AnswersOver, AnswersPart, AnswersInPart, AnswersUntold, AnswersInText, AnswersExactly, Yields, IsLike, RefusesBy, RefusesExactly, LeavesUntouched, LeavesUnread, TellsLine, TakesWithin, TellsNumber, KeepsCounts, IsFileText, IsValid, Completes}
+use Rattle.agcode_top.specs.Headline.{Answers, AnswersOver, AnswersPart, AnswersInPart, AnswersUntold, AnswersInText, AnswersExactly, Yields, IsLike}
 use Rattle.agcode_top.proofs.EraseLemmas.{one-erase}
-use Rattle.agcode_top.proofs.EndLemmas.{with_line, line_call, rose-later, stayed-top, stayed-front, Served, one_text, encodes, decodes, serves, serves-text, Ends, answer-ends, encode-ends, decode-ends, ends-at, served-ends, ends-can, ends-own, encode-InputFault, decode-InputFault, encode-OutFault, decode-OutFault, encode-ReportFault, decode-ReportFault, said-not, answer-InputFault, serve-InputFault, answer-OutFault, serve-OutFault, answer-ReportFault, serve-ReportFault, same-parts, refused-accepted, parts-cause, one-part-cause, one-cause, carried-served, obeyed-carried, described-ends, carried-not-Usage, described-at}
-use Rattle.agcode_top.proofs.StillLemmas.{unread-still, ungiven-still, carried-early, answer-wanting, encode-NoMemory, decode-NoMemory, streamed-wanting, serve-wanting, carried-wanting, run-early, carried-unread, run-unread, answer-quiet, carried-quiet, run-quiet, IsSilent, silent-still, decode-IsOwn, answer-silent, serve-silent, carried-silent, gives-later, run-line, run-usage_line, still-most, answer-most, most-at, most-sum, serve-most, carried-most, run-taken, just-append, same-taken, just-same, number-answer, number-encode, number-decode, no-word-length, encode-no-word, decode-no-word, number-served, number-carried, run-number, Kept, read-still, write-still, untouched-kept, not-passing, answer-kept, kept-line, carried-kept, run-kept, line-nothing, front-nil, front-nothing, no-line}
-use Rattle.agcode_top.proofs.CauseLemmas.{valid-member, valid-votes, valid-check, valid-done, answer-done, encode-done, decode-answer, file-answer, decode-done, serve-done, run-usage, run-own, carried-desc_fault, run-desc_fault, run-input_fault, run-out_fault, run-report_fault, same-cause, carried-descriptor, run-descriptor, carried-refused, run-refused, none-first, command-done, run-complete}
+use Rattle.agcode_top.proofs.EndLemmas.{with_line, line_call, serves, serves-text, said-not, same-parts, refused-accepted, obeyed-carried, described-at}
+use Rattle.agcode_top.proofs.StillLemmas.{no-line}
 
 -- commands that write one text
 pub gives-told : (s : SinkCall) (last : SinkView) (told line : List ℕ) → Writes s told → GivesOrFails (line_call s last) line → GivesOrFails (once_given (until s last) told) line

@@ -1,52 +1,39 @@
 -- Each status of a run by its cause, and completeness
-use Rattle.std.proofs.Common.{◌≡◌, ℕ, ◌+◌, ◌-◌, ◌^◌, ◌<◌, ◌≤◌, ◌↔◌, List, [], ◌++◌, ◌∷◌, Bool, nat_le, if◌then◌else◌, length, true, false, IsTrue, sym, ap, ◌∙◌, refl, inl, inr, ◌⊎◌, subst, arith, Result, Ok, Err, append-nil, length-append}
-use Rattle.std.proofs.lemmas.Bool.{cases_lt}
+use Rattle.std.proofs.Common.{◌≡◌, ℕ, ◌≤◌, ◌↔◌, List, [], Bool, nat_le, if◌then◌else◌, length, false, IsTrue, sym, ap, ◌∙◌, refl, inl, inr, ◌⊎◌, subst, arith, Ok, Err}
 use Rattle.ag_io.specs.Counts.{Rose}
-use Rattle.ag_io.specs.Views.{SourceView, SinkView, GaveFront}
+use Rattle.ag_io.specs.Views.{SinkView}
 use Rattle.command_words.specs.declared.words.Command.{Command}
 use Rattle.command_words.specs.declared.words.Words.{Words}
-use Rattle.command_words.specs.Lines.{IsCommandLine}
-use Rattle.command_words.proofs.LineLemmas.{line-says}
 use Rattle.command_words.specs.declared.words.Command.TheVariants.{Member, Points, Params, Bound, Check, Encode, Decode, Votes, Trial, Erase, Design}
-use Rattle.order_domain.specs.declared.Point.{Point}
 use Rattle.stored_form.specs.Form.{Form}
 use Rattle.stored_form.specs.Reading.{Reading, File, reading}
-use Rattle.stream_codec.specs.declared.encode.EncodeCounts.{EncodeCounts}
-use Rattle.stream_codec.specs.declared.encode.EncodeFault.{EncodeFault}
-use Rattle.stream_codec.specs.declared.encode.EncodeFault.TheVariants as encoding
-use Rattle.stream_codec.specs.declared.decode.DecodeCounts.{DecodeCounts}
-use Rattle.stream_codec.specs.declared.decode.DecodeFault.{DecodeFault}
 use Rattle.stream_codec.specs.declared.decode.DecodeFault.TheVariants as decoding
 use Rattle.stored_form.specs.Frame.{group_bytes}
-use Rattle.stream_codec.specs.declared.limits.TheConstants.{PIECE}
-use Rattle.stream_codec.specs.Encoded.{Encode as EncodeCall, EncodeFaultAs, EncodeToldAs}
-use Rattle.stream_codec.specs.Decoding.{Decode as DecodeCall, FaultAs, ToldAs, answer_by, answer_to, read_bytes}
+use Rattle.stream_codec.specs.Decoding.{answer_by, answer_to, read_bytes}
 use Rattle.stream_codec.specs.Taking.{taken_past}
 use Rattle.std.proofs.lemmas.Bool.{le-leb}
 use Rattle.stream_codec.specs.Report.{counts_of}
 use Rattle.code_descriptor.specs.declared.DescCause.{DescCause}
 use Rattle.code_descriptor.specs.Parts.{Parts}
-use Rattle.code_descriptor.proofs.OneMeaning.{one_meaning}
 use Rattle.block_theory.specs.Checks.{IsInCode}
 use Rattle.descriptor_code.specs.Plain.{checks, plain_form}
 use Rattle.stream_codec.specs.declared.limits.TheConstants.{MOST_BYTES}
 use Rattle.agcode_top.specs.declared.limit.TheConstants.{MOST_TABLE}
-use Rattle.code_descriptor.specs.declared.DescCause.TheVariants.{TooLarge, NotToml, BadKey, BadField, BadDegrees, BadTerm, MissingLead, BadPoint, BadWeight, BadImproved, BadLayout, BadDepth, NoPoints, NothingFree}
 use Rattle.agcode_top.specs.declared.status.Status.{Status}
-use Rattle.agcode_top.specs.declared.status.Status.TheVariants.{Done, NotCodeword, Beyond, Ragged, Framing, TableRefused, WordLength, Usage, Descriptor, TooLong, DescFault, InputFault, OutFault, ReportFault, NoMemory}
-use Rattle.agcode_top.specs.Calls.{Call, SourceCall, SinkCall, Untouched, until, once_given, IsUntaken, IsUngiven, ReadFailed, WriteFailed, ReadsWell, WritesWell, Writes, StopsAt, GivesOrFails, NoneFailed, TakesJust, TakesAtMost}
-use Rattle.agcode_top.specs.Statuses.{OnWords, OnCommand, IsAnswer, IsEarly, IsOwn, IsQuiet, is_streamed, is_passing, has_text, tells_report, reads_input, TellsMore, CanSay, CanStop, CanEnd}
-use Rattle.agcode_top.specs.Commands.{IsNearCode, has_points, Refuses, RefusesParts, Accepts, Says, SaysOnOut, SaysMember, SaysCheck, SaysVotes, is_in_code, not_in_code, not_long, is_table, no_table, too_long, is_near, is_far, not_n_long, IsNoWord, IsInputTold, TakesFor, most_taken}
+use Rattle.agcode_top.specs.declared.status.Status.TheVariants.{Done, Usage, Descriptor, DescFault, InputFault, OutFault, ReportFault, NoMemory}
+use Rattle.agcode_top.specs.Calls.{Call, SourceCall, SinkCall, ReadFailed, WriteFailed, NoneFailed}
+use Rattle.agcode_top.specs.Statuses.{OnWords, is_streamed, CanStop, CanEnd}
+use Rattle.agcode_top.specs.Commands.{IsNearCode, Refuses, Accepts, Says, SaysMember, SaysCheck, SaysVotes, is_in_code, not_in_code, not_long, is_table, no_table, too_long, is_near, is_far, not_n_long, IsInputTold}
 use Rattle.agcode_top.specs.Lines.{line_of}
-use Rattle.agcode_top.specs.Streams.{Encoded, Decoded, encode_status, decode_status, encode_of, decode_of}
-use Rattle.agcode_top.specs.Leaves.{AnswerLeaves, said, out_stopped, report_stopped, input_stopped, wanting, EncodeLeaves, encoded, unencoded, DecodeLeaves, decoded, undecoded, ServeLeaves, ServesDescribed, CarryOutLeaves, unread, refused, unserved, served, ObeyLeaves}
+use Rattle.agcode_top.specs.Streams.{Encoded, Decoded, encode_status, decode_status}
+use Rattle.agcode_top.proofs.SalvageLemmas.{file-none, plain-decoded}
+use Rattle.agcode_top.specs.Leaves.{AnswerLeaves, said, out_stopped, report_stopped, input_stopped, wanting, encoded, unencoded, decoded, salvaged, undecoded, CarryOutLeaves, unread, refused, unserved, served, ObeyLeaves}
 use Rattle.descriptor_design.specs.Plans.{HasMany}
 use Rattle.descriptor_design.proofs.Once.{some_design}
 use Rattle.agcode_top.specs.Design.{SaysDesign, has_plans, no_plan}
-use Rattle.agcode_top.specs.Headline.{IsTableText, Answers, AnswersOver, AnswersPart, AnswersUntold, AnswersExactly, Yields, IsLike, RefusesBy, RefusesExactly, LeavesUntouched, LeavesUnread, TellsLine, TakesWithin, TellsNumber, KeepsCounts, IsFileText, IsValid, Completes}
+use Rattle.agcode_top.specs.Headline.{IsTableText, RefusesBy, RefusesExactly, IsFileText, IsValid, Completes}
 use Rattle.agcode_top.proofs.EraseLemmas.{valid-erase}
-use Rattle.agcode_top.proofs.EndLemmas.{with_line, line_call, rose-later, stayed-top, stayed-front, Served, one_text, encodes, decodes, serves, serves-text, Ends, answer-ends, encode-ends, decode-ends, ends-at, served-ends, ends-can, ends-own, encode-InputFault, decode-InputFault, encode-OutFault, decode-OutFault, encode-ReportFault, decode-ReportFault, said-not, answer-InputFault, serve-InputFault, answer-OutFault, serve-OutFault, answer-ReportFault, serve-ReportFault, same-parts, refused-accepted, parts-cause, one-part-cause, one-cause, carried-served, obeyed-carried, described-ends, carried-not-Usage, described-at}
-use Rattle.agcode_top.proofs.StillLemmas.{unread-still, ungiven-still, carried-early, answer-wanting, encode-NoMemory, decode-NoMemory, streamed-wanting, serve-wanting, carried-wanting, run-early, carried-unread, run-unread, answer-quiet, carried-quiet, run-quiet, IsSilent, silent-still, decode-IsOwn, answer-silent, serve-silent, carried-silent, gives-later, run-line, run-usage_line, still-most, answer-most, most-at, most-sum, serve-most, carried-most, run-taken, just-append, same-taken, just-same, number-answer, number-encode, number-decode, no-word-length, encode-no-word, decode-no-word, number-served, number-carried, run-number, Kept, read-still, write-still, untouched-kept, not-passing, answer-kept, kept-line, carried-kept, run-kept, line-nothing, front-nil, front-nothing, no-line}
+use Rattle.agcode_top.proofs.EndLemmas.{with_line, stayed-front, Served, one_text, encodes, decodes, serves, ends-can, ends-own, serve-InputFault, serve-OutFault, serve-ReportFault, same-parts, refused-accepted, one-cause, carried-served, obeyed-carried, described-ends, carried-not-Usage}
 
 -- how a command ends on a valid input
 pub valid-member : (p : Parts) (input : List ℕ) (status : Status) (text : List ℕ) → IsInCode (checks p) input → SaysMember p input status text → status ≡ Done
@@ -111,8 +98,12 @@ serve-done ws command p i o r s (one_text e h) it si so sr v = answer-done ws co
 serve-done ws command p i o r s (encodes c (encoded h still)) it si so sr v =
     inl (encode-done p i o s h (subst (λ (x : Command). IsInputTold x i.tells) c it refl) si so (subst (λ (x : Command). IsValid ws x p i.before.left) c v))
 serve-done ws command p i o r s (encodes c (unencoded e still)) it si so sr v = inr e
-serve-done ws command p i o r s (decodes c (decoded h)) it si so sr v =
+serve-done ws command p i o r s (decodes c (decoded flag h)) it si so sr v =
     inl (decode-done p i o r s h (subst (λ (x : Command). IsInputTold x i.tells) c it refl) si so sr (subst (λ (x : Command). IsValid ws x p i.before.left) c v))
+serve-done ws command p i o r s (decodes c (salvaged flag h)) it si so sr v =
+    let file = subst (λ (x : Command). IsValid ws x p i.before.left) c v in
+    let told = subst (λ (x : Command). IsInputTold x i.tells) c it refl in
+    inl (decode-done p i o r s (plain-decoded p i o r s h told (file-none (plain_form p) i.before.left file.file file.reads)) told si so sr file)
 serve-done ws command p i o r s (decodes c (undecoded e still)) it si so sr v = inr e
 
 pub run-usage : (texts : List (List ℕ)) (run : Call) (s : Status) → ObeyLeaves texts run s → (s ≡ Usage) ↔ OnWords texts (λ w. ⊥)

@@ -1,5 +1,5 @@
 -- What design leaves
-use Rattle.std.proofs.Common.{◌≡◌, ℕ, List, [], true, false, refl, arith, subst, sym, Bool}
+use Rattle.std.proofs.Common.{◌≡◌, ℕ, List, true, refl, arith, subst, sym, Bool}
 use Rattle.ag_io.specs.Views.{SourceView, SinkView}
 use Rattle.command_words.specs.declared.words.Command.{Command}
 use Rattle.command_words.specs.declared.words.Command.TheVariants.{Member, Points, Params, Bound, Check, Encode, Decode, Votes, Trial, Erase, Design}
@@ -8,7 +8,6 @@ use Rattle.code_descriptor.specs.Parts.{Parts}
 use Rattle.descriptor_design.specs.Plans.{HasDesign, HasNoDesign}
 use Rattle.agcode_top.specs.declared.status.Status.{Status}
 use Rattle.agcode_top.specs.declared.status.Status.TheVariants.{Done, NoDesign}
-use Rattle.agcode_top.specs.declared.needs.Needs.{Needs}
 use Rattle.agcode_top.specs.declared.needs.Needs.TheVariants as need
 use Rattle.agcode_top.specs.Calls.{SinkCall, still_source, still_sink}
 use Rattle.agcode_top.specs.Commands.{has_points, needs}

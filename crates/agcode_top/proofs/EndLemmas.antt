@@ -1,43 +1,36 @@
 -- How a command ends, by what its own function leaves
-use Rattle.std.proofs.Common.{◌≡◌, ℕ, ◌+◌, ◌-◌, ◌^◌, ◌<◌, ◌≤◌, ◌↔◌, List, [], ◌++◌, ◌∷◌, length, true, false, IsTrue, sym, ap, ◌∙◌, refl, inl, inr, ◌⊎◌, subst, arith, Result, Ok, Err, append-nil, length-append}
+use Rattle.std.proofs.Common.{◌≡◌, ℕ, ◌-◌, ◌^◌, ◌<◌, ◌≤◌, List, true, false, IsTrue, sym, ap, ◌∙◌, refl, inl, inr, ◌⊎◌, subst, arith, Result, Ok, Err}
 use Rattle.std.proofs.lemmas.Bool.{cases_lt}
 use Rattle.ag_io.specs.Counts.{Rose}
-use Rattle.ag_io.specs.Views.{SourceView, SinkView, GaveFront}
+use Rattle.ag_io.specs.Views.{SinkView}
 use Rattle.command_words.specs.declared.words.Command.{Command}
 use Rattle.command_words.specs.declared.words.Words.{Words}
 use Rattle.command_words.specs.Lines.{IsCommandLine}
 use Rattle.command_words.proofs.LineLemmas.{line-says}
 use Rattle.command_words.specs.declared.words.Command.TheVariants.{Member, Points, Params, Bound, Check, Encode, Decode, Votes, Trial, Erase, Design}
-use Rattle.order_domain.specs.declared.Point.{Point}
-use Rattle.stored_form.specs.Form.{Form}
-use Rattle.stored_form.specs.Reading.{Reading, File, reading}
 use Rattle.stream_codec.specs.declared.encode.EncodeCounts.{EncodeCounts}
 use Rattle.stream_codec.specs.declared.encode.EncodeFault.{EncodeFault}
 use Rattle.stream_codec.specs.declared.encode.EncodeFault.TheVariants as encoding
 use Rattle.stream_codec.specs.declared.decode.DecodeCounts.{DecodeCounts}
 use Rattle.stream_codec.specs.declared.decode.DecodeFault.{DecodeFault}
 use Rattle.stream_codec.specs.declared.decode.DecodeFault.TheVariants as decoding
-use Rattle.stored_form.specs.Frame.{group_bytes}
-use Rattle.stream_codec.specs.declared.limits.TheConstants.{PIECE}
-use Rattle.stream_codec.specs.Encoded.{Encode as EncodeCall, EncodeFaultAs, EncodeToldAs}
-use Rattle.stream_codec.specs.Decoding.{Decode as DecodeCall, FaultAs, ToldAs, answer_by, answer_to}
-use Rattle.stream_codec.specs.Report.{counts_of}
+use Rattle.stream_codec.specs.Encoded.{Encode as EncodeCall, EncodeFaultAs}
+use Rattle.stream_codec.specs.Decoding.{Decode as DecodeCall, FaultAs}
+use Rattle.stream_codec.specs.declared.salvage.SalvageCounts.{SalvageCounts}
+use Rattle.stream_codec.specs.Salvaging.{plain}
 use Rattle.code_descriptor.specs.declared.DescCause.{DescCause}
 use Rattle.code_descriptor.specs.Parts.{Parts}
 use Rattle.code_descriptor.proofs.OneMeaning.{one_meaning}
 use Rattle.descriptor_code.specs.Plain.{plain_form}
-use Rattle.stream_codec.specs.declared.limits.TheConstants.{MOST_BYTES}
-use Rattle.agcode_top.specs.declared.limit.TheConstants.{MOST_TABLE}
 use Rattle.code_descriptor.specs.declared.DescCause.TheVariants.{TooLarge, NotToml, BadKey, BadField, BadSpace, BadDegrees, BadTerm, MissingLead, BadPoint, BadWeight, BadImproved, BadLayout, BadDepth, NoPoints, NothingFree}
 use Rattle.agcode_top.specs.declared.status.Status.{Status}
-use Rattle.agcode_top.specs.declared.status.Status.TheVariants.{Done, NotCodeword, Beyond, Ragged, Framing, TableRefused, WordLength, Usage, Descriptor, TooLong, DescFault, InputFault, OutFault, ReportFault, NoMemory}
-use Rattle.agcode_top.specs.Calls.{Call, SourceCall, SinkCall, Untouched, until, once_given, IsUntaken, IsUngiven, ReadFailed, WriteFailed, ReadsWell, WritesWell, Writes, StopsAt, GivesOrFails, NoneFailed, TakesJust, TakesAtMost}
-use Rattle.agcode_top.specs.Statuses.{OnWords, OnCommand, IsAnswer, IsEarly, IsOwn, IsQuiet, is_streamed, is_passing, has_text, tells_report, reads_input, TellsMore, CanSay, CanStop, CanEnd}
-use Rattle.agcode_top.specs.Commands.{has_points, Refuses, RefusesParts, Accepts, Says, SaysOnOut, SaysMember, SaysCheck, SaysVotes, is_in_code, not_in_code, not_long, is_table, no_table, too_long, is_near, is_far, not_n_long, IsNoWord, IsInputTold, TakesFor, most_taken}
-use Rattle.agcode_top.specs.Lines.{line_of}
-use Rattle.agcode_top.specs.Streams.{Encoded, Decoded, encode_status, decode_status, encode_of, decode_of}
-use Rattle.agcode_top.specs.Leaves.{AnswerLeaves, said, out_stopped, report_stopped, input_stopped, wanting, EncodeLeaves, encoded, unencoded, DecodeLeaves, decoded, undecoded, ServeLeaves, ServesDescribed, CarryOutLeaves, unread, refused, unserved, served, ObeyLeaves}
-use Rattle.agcode_top.specs.Headline.{Answers, AnswersOver, AnswersPart, AnswersUntold, AnswersExactly, Yields, IsLike, RefusesBy, RefusesExactly, LeavesUntouched, LeavesUnread, TellsLine, TakesWithin, TellsNumber, KeepsCounts, IsFileText, IsValid, Completes}
+use Rattle.agcode_top.specs.declared.status.Status.TheVariants.{Usage, Descriptor, DescFault, InputFault, OutFault, ReportFault, NoMemory}
+use Rattle.agcode_top.specs.Calls.{Call, SourceCall, SinkCall, until, ReadFailed, WriteFailed}
+use Rattle.agcode_top.specs.Statuses.{IsOwn, is_streamed, tells_report, reads_input, CanSay, CanStop, CanEnd}
+use Rattle.agcode_top.specs.Commands.{has_points, Refuses, RefusesParts, Accepts}
+use Rattle.agcode_top.specs.Streams.{encode_status, decode_status, salvage_status, encode_of, decode_of}
+use Rattle.agcode_top.proofs.SalvageLemmas.{not-salvaged, like-status, fault-plain}
+use Rattle.agcode_top.specs.Leaves.{AnswerLeaves, said, out_stopped, report_stopped, input_stopped, wanting, EncodeLeaves, encoded, unencoded, DecodeLeaves, decoded, salvaged, undecoded, ServeLeaves, ServesDescribed, CarryOutLeaves, unread, refused, unserved, served, ObeyLeaves}
 
 -- a run whose last write tells the line of the status, after which report is seen so
 abbrev pub with_line : Call → SinkView → Call
@@ -68,7 +61,7 @@ stayed-front a b c l m s (inr h) =
 pub data Served (ws : Words) (command : Command) (p : Parts) (i : SourceCall) (o r : SinkCall) (s : Status) : Type 0 where
   one_text : is_streamed command ≡ false → AnswerLeaves ws command p i o r s → Served ws command p i o r s
   encodes : command ≡ Encode → EncodeLeaves p i o r s → Served ws command p i o r s
-  decodes : command ≡ Decode → DecodeLeaves p i o r s → Served ws command p i o r s
+  decodes : command ≡ Decode → DecodeLeaves ws p i o r s → Served ws command p i o r s
 
 pub serves : (ws : Words) (command : Command) (p : Parts) (i : SourceCall) (o r : SinkCall) (s : Status) → ServeLeaves ws command p i o r s → Served ws command p i o r s
 serves ws Member p i o r s h = one_text refl h
@@ -115,6 +108,12 @@ decode-ends (Err (decoding.Beyond group word)) = inl (inl refl)
 decode-ends (Err (decoding.Ragged extra)) = inl refl
 decode-ends (Err decoding.Framing) = inl refl
 
+pub salvage-ends : (answer : Result SalvageCounts DecodeFault) → Ends (salvage_status answer) Decode
+salvage-ends answer = elim (like-status answer) [
+  | inl e ↦ subst (λ (t : Status). Ends t Decode) (sym e) (inl refl)
+  | inr e ↦ subst (λ (t : Status). Ends t Decode) (sym e) (decode-ends (plain answer))
+]
+
 pub ends-at : (s t : Status) (command x : Command) → s ≡ t → command ≡ x → Ends t x → Ends s command
 ends-at s t command x e c h = subst (λ (y : Command). Ends s y) (sym c) (subst (λ (y : Status). Ends y x) (sym e) h)
 
@@ -122,7 +121,8 @@ pub served-ends : (ws : Words) (command : Command) (p : Parts) (i : SourceCall) 
 served-ends ws command p i o r s (one_text n h) = answer-ends ws command p i o r s h
 served-ends ws command p i o r s (encodes c (encoded h still)) = ends-at s (encode_status h.answer) command Encode h.status_is c (encode-ends h.answer)
 served-ends ws command p i o r s (encodes c (unencoded e still)) = inr (inr (inl e))
-served-ends ws command p i o r s (decodes c (decoded h)) = ends-at s (decode_status h.answer) command Decode h.status_is c (decode-ends h.answer)
+served-ends ws command p i o r s (decodes c (decoded flag h)) = ends-at s (decode_status h.answer) command Decode h.status_is c (decode-ends h.answer)
+served-ends ws command p i o r s (decodes c (salvaged flag h)) = ends-at s (salvage_status h.answer) command Decode h.status_is c (salvage-ends h.answer)
 served-ends ws command p i o r s (decodes c (undecoded e still)) = inr (inr (inl e))
 
 pub ends-can : (s : Status) (command : Command) → Ends s command → CanEnd s command
@@ -212,7 +212,9 @@ pub serve-InputFault : (ws : Words) (command : Command) (p : Parts) (i : SourceC
 serve-InputFault ws command p i o r s (one_text n h) e = answer-InputFault ws command p i o r s h e
 serve-InputFault ws command p i o r s (encodes c (encoded h still)) e = encode-InputFault (encode_of (plain_form p) i o) h.answer (sym e ∙ h.status_is) h.encoded.fault
 serve-InputFault ws command p i o r s (encodes c (unencoded k still)) e = absurd (let l : NoMemory ≡ InputFault = sym k ∙ e in let z : ⊥ = cc in z)
-serve-InputFault ws command p i o r s (decodes c (decoded h)) e = decode-InputFault (decode_of (plain_form p) i o r) h.answer (sym e ∙ h.status_is) h.decoded.fault
+serve-InputFault ws command p i o r s (decodes c (decoded flag h)) e = decode-InputFault (decode_of (plain_form p) i o r) h.answer (sym e ∙ h.status_is) h.decoded.fault
+serve-InputFault ws command p i o r s (decodes c (salvaged flag h)) e =
+    decode-InputFault (decode_of (plain_form p) i o r) (plain h.answer) (not-salvaged h.answer InputFault (sym e ∙ h.status_is) (λ k. let z : ⊥ = cc in z)) (fault-plain (decode_of (plain_form p) i o r) h.answer h.salvaged.fault)
 serve-InputFault ws command p i o r s (decodes c (undecoded k still)) e = absurd (let l : NoMemory ≡ InputFault = sym k ∙ e in let z : ⊥ = cc in z)
 
 pub answer-OutFault : (ws : Words) (command : Command) (p : Parts) (i : SourceCall) (o r : SinkCall) (s : Status) → AnswerLeaves ws command p i o r s → s ≡ OutFault → WriteFailed o
@@ -226,7 +228,9 @@ pub serve-OutFault : (ws : Words) (command : Command) (p : Parts) (i : SourceCal
 serve-OutFault ws command p i o r s (one_text n h) e = answer-OutFault ws command p i o r s h e
 serve-OutFault ws command p i o r s (encodes c (encoded h still)) e = encode-OutFault (encode_of (plain_form p) i o) h.answer (sym e ∙ h.status_is) h.encoded.fault
 serve-OutFault ws command p i o r s (encodes c (unencoded k still)) e = absurd (let l : NoMemory ≡ OutFault = sym k ∙ e in let z : ⊥ = cc in z)
-serve-OutFault ws command p i o r s (decodes c (decoded h)) e = decode-OutFault (decode_of (plain_form p) i o r) h.answer (sym e ∙ h.status_is) h.decoded.fault
+serve-OutFault ws command p i o r s (decodes c (decoded flag h)) e = decode-OutFault (decode_of (plain_form p) i o r) h.answer (sym e ∙ h.status_is) h.decoded.fault
+serve-OutFault ws command p i o r s (decodes c (salvaged flag h)) e =
+    decode-OutFault (decode_of (plain_form p) i o r) (plain h.answer) (not-salvaged h.answer OutFault (sym e ∙ h.status_is) (λ k. let z : ⊥ = cc in z)) (fault-plain (decode_of (plain_form p) i o r) h.answer h.salvaged.fault)
 serve-OutFault ws command p i o r s (decodes c (undecoded k still)) e = absurd (let l : NoMemory ≡ OutFault = sym k ∙ e in let z : ⊥ = cc in z)
 
 pub answer-ReportFault : (ws : Words) (command : Command) (p : Parts) (i : SourceCall) (o r : SinkCall) (s : Status) → AnswerLeaves ws command p i o r s → s ≡ ReportFault → WriteFailed r
@@ -240,7 +244,9 @@ pub serve-ReportFault : (ws : Words) (command : Command) (p : Parts) (i : Source
 serve-ReportFault ws command p i o r s (one_text n h) e = answer-ReportFault ws command p i o r s h e
 serve-ReportFault ws command p i o r s (encodes c (encoded h still)) e = absurd (encode-ReportFault h.answer (sym e ∙ h.status_is))
 serve-ReportFault ws command p i o r s (encodes c (unencoded k still)) e = absurd (let l : NoMemory ≡ ReportFault = sym k ∙ e in let z : ⊥ = cc in z)
-serve-ReportFault ws command p i o r s (decodes c (decoded h)) e = decode-ReportFault (decode_of (plain_form p) i o r) h.answer (sym e ∙ h.status_is) h.decoded.fault
+serve-ReportFault ws command p i o r s (decodes c (decoded flag h)) e = decode-ReportFault (decode_of (plain_form p) i o r) h.answer (sym e ∙ h.status_is) h.decoded.fault
+serve-ReportFault ws command p i o r s (decodes c (salvaged flag h)) e =
+    decode-ReportFault (decode_of (plain_form p) i o r) (plain h.answer) (not-salvaged h.answer ReportFault (sym e ∙ h.status_is) (λ k. let z : ⊥ = cc in z)) (fault-plain (decode_of (plain_form p) i o r) h.answer h.salvaged.fault)
 serve-ReportFault ws command p i o r s (decodes c (undecoded k still)) e = absurd (let l : NoMemory ≡ ReportFault = sym k ∙ e in let z : ⊥ = cc in z)
 
 pub same-parts : (command : Command) (text : List ℕ) (p q : Parts) → Accepts command text p → Accepts command text q → p ≡ q

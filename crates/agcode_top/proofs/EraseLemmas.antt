@@ -1,5 +1,5 @@
 -- What erase says of an input, and how it ends
-use Rattle.std.proofs.Common.{◌≡◌, ◌≢◌, ℕ, ◌+◌, ◌*◌, ◌<◌, ◌≤◌, min, inl, inr, List, [], length, Bool, true, false, IsTrue, All, get_or, take, drop, arith, sym, ap, subst, ◌∙◌, refl, length-take, length-drop}
+use Rattle.std.proofs.Common.{◌≡◌, ◌≢◌, ℕ, ◌+◌, ◌*◌, ◌<◌, ◌≤◌, min, inl, inr, List, [], length, Bool, true, false, IsTrue, All, get_or, arith, sym, ap, subst, ◌∙◌, refl}
 use Rattle.std.proofs.lemmas.Bool.{cases_order, cases_lt}
 use Rattle.std.proofs.lemmas.List.Elements.{All-get_or}
 use Rattle.ag_io.specs.Views.{SourceView, SinkView}
@@ -11,7 +11,7 @@ use Rattle.descriptor_code.specs.Plain.{checks, bound}
 use Rattle.descriptor_code.specs.PlainLaws.{IsPlain}
 use Rattle.erase_code.specs.declared.fill.FillSays.{FillSays}
 use Rattle.erase_code.specs.declared.fill.FillSays.TheVariants.{Filled as Fills, Ambiguous as Several, NoCodeword as None}
-use Rattle.erase_code.specs.Filling.{lost_count, Fits, IsOnlyFit, IsLeastDifference, HasNoFit, IsAnswer}
+use Rattle.erase_code.specs.Filling.{lost_count, IsOnlyFit, IsLeastDifference, IsAnswer}
 use Rattle.erase_code.specs.Marks.{IsBadMark, lost_by, positions_of}
 use Rattle.code_texts.specs.Texts.{filled_text_of}
 use Rattle.erase_code.proofs.Exact.{one_or_more, one_place}

@@ -1,5 +1,5 @@
 -- What the clauses of encode and decode say, from how the command ended
-use Rattle.std.proofs.Common.{◌≡◌, ℕ, ◌≤◌, List, [], ◌∷◌, ◌++◌, length, append-nil, IsTrue, sym, ap, ◌∙◌, refl, inl, inr, ◌⊎◌, subst, Result, Ok, Err}
+use Rattle.std.proofs.Common.{◌≡◌, ℕ, ◌<◌, ◌≤◌, true, false, List, [], ◌++◌, length, append-nil, IsTrue, sym, ap, ◌∙◌, refl, inl, inr, ◌⊎◌, subst, Result, Ok, Err}
 use Rattle.ag_io.specs.Views.{SinkView, GaveFront}
 use Rattle.ag_texts.specs.Lines.{done_line_of}
 use Rattle.command_words.specs.declared.words.Command.{Command}
@@ -22,17 +22,20 @@ use Rattle.code_descriptor.specs.Parts.{Parts}
 use Rattle.descriptor_code.specs.Plain.{plain_form}
 use Rattle.stream_codec.specs.declared.limits.TheConstants.{MOST_BYTES}
 use Rattle.agcode_top.specs.declared.status.Status.{Status}
-use Rattle.agcode_top.specs.declared.status.Status.TheVariants.{Done, NotCodeword, Beyond, Ragged, Framing, TableRefused, WordLength, Usage, Descriptor, TooLong, DescFault, InputFault, OutFault, ReportFault, NoMemory, Salvaged, BadMark, NoCodeword, Ambiguous, NoDesign}
+use Rattle.agcode_top.specs.declared.status.Status.TheVariants.{Done, NoMemory, Salvaged}
 use Rattle.agcode_top.specs.Calls.{Call, SourceCall, SinkCall, until, once_given, GivesText, GivesOrFails, EndsText, NoneFailed}
-use Rattle.agcode_top.specs.Statuses.{OnCommand, IsRead, IsOwn}
+use Rattle.agcode_top.specs.Statuses.{OnWords, OnCommand, IsRead, IsOwn}
 use Rattle.agcode_top.specs.Commands.{Accepts}
 use Rattle.agcode_top.specs.Lines.{line_of}
-use Rattle.agcode_top.specs.Streams.{Encoded, Decoded, encode_status, decode_status, encode_of, decode_of}
-use Rattle.agcode_top.specs.Leaves.{EncodeLeaves, encoded, unencoded, DecodeLeaves, decoded, undecoded, ServesDescribed, CarryOutLeaves, unread, refused, unserved, served, ObeyLeaves}
-use Rattle.agcode_top.specs.Headline.{StoresImage, HasImage, Repairs, Repaired, status_of_reading, ReadsText, ReadAs, EncodesAs, DecodesAs}
+use Rattle.agcode_top.specs.Streams.{Encoded, Decoded, SalvagedText, encode_status, decode_status, encode_of, decode_of}
+use Rattle.agcode_top.specs.Leaves.{EncodeLeaves, encoded, unencoded, DecodeLeaves, decoded, salvaged, undecoded, ServesDescribed, CarryOutLeaves, unread, refused, unserved, served, ObeyLeaves}
+use Rattle.agcode_top.specs.Headline.{StoresImage, HasImage, Repairs, Repaired, status_of_reading, ReadsText, ReadAs, EncodesAs, DecodesAs, Rescues, RescuedOver, SalvagesExactly, SalvagesAs}
 use Rattle.agcode_top.proofs.EndLemmas.{with_line, line_call, rose-later, carried-served, obeyed-carried, described-at, same-parts}
+use Rattle.stored_form.specs.Salvage.{lost_count}
+use Rattle.stream_codec.specs.Salvaging.{salvage_report}
+use Rattle.agcode_top.proofs.SalvageLemmas.{file-none, plain-decoded, read-none, rescued, decode-Salvaged, salvages-all}
 use Rattle.agcode_top.proofs.StillLemmas.{no-line}
-use Rattle.agcode_top.proofs.CauseLemmas.{decode-answer, file-answer, none-first}
+use Rattle.agcode_top.proofs.CauseLemmas.{decode-answer, none-first}
 
 -- encoding
 image-given : (p : Parts) (run : Call) (last : SinkView) (h : Encoded p run.input run.out Done) (answer : Result EncodeCounts EncodeFault) → h.answer ≡ answer → Done ≡ encode_status answer → IsTrue run.input.tells →
@@ -100,12 +103,16 @@ repaired-over : (ws : Words) (p : Parts) (run : Call) (s : Status) (last : SinkV
     Accepts Decode run.desc.before.left p → IsFile x → IsNearImage (plain_form p) x run.input.before.left → length run.input.before.left ≤ MOST_BYTES →
     GivesOrFails (line_call run.report last) (line_of s) → ((s ≡ Done) × Repaired (plain_form p) x run.input run.out (until run.report last)) ⊎ (s ≡ NoMemory)
 repaired-over ws p run s last g x told it n a file near l t =
-    let leaves : DecodeLeaves p run.input run.out run.report s =
-    subst (λ (q : Parts). DecodeLeaves q run.input run.out run.report s) (same-parts Decode run.desc.before.left g.parts p (g.accepted told) a) g.leaves in
+    let leaves : DecodeLeaves ws p run.input run.out run.report s =
+    subst (λ (q : Parts). DecodeLeaves ws q run.input run.out run.report s) (same-parts Decode run.desc.before.left g.parts p (g.accepted told) a) g.leaves in
     go leaves
   where
-    go : DecodeLeaves p run.input run.out run.report s → ((s ≡ Done) × Repaired (plain_form p) x run.input run.out (until run.report last)) ⊎ (s ≡ NoMemory)
-    go (decoded h) = inl (repaired-by p run s last h x h.sound it n l file near t)
+    go : DecodeLeaves ws p run.input run.out run.report s → ((s ≡ Done) × Repaired (plain_form p) x run.input run.out (until run.report last)) ⊎ (s ≡ NoMemory)
+    go (decoded flag h) = inl (repaired-by p run s last h x h.sound it n l file near t)
+    go (salvaged flag h) =
+        let e : reading (plain_form p) run.input.before.left ≡ File x = (file_law (plain_form p) x run.input.before.left h.sound).1 (file, near) in
+        let d = plain-decoded p run.input run.out run.report s h it (file-none (plain_form p) run.input.before.left x e) in
+        inl (repaired-by p run s last d x d.sound it n l file near t)
     go (undecoded e still) = inr e
 
 pub run-repair : (texts : List (List ℕ)) (run : Call) (s : Status) (last : SinkView) → ObeyLeaves texts run s → run.report.before.faults ≤ run.report.after.faults → run.report.after.faults ≤ last.faults →
@@ -169,10 +176,13 @@ read-as p run s last h (Err (decoding.Ragged extra)) e is q told a l t = refused
 read-as p run s last h (Err decoding.Framing) e is q told a l t = refused-as p run s last h ReadFraming
     (subst (λ (r : Result DecodeCounts DecodeFault). ToldAs (decode_of (plain_form p) run.input run.out run.report) r) e (h.decoded.told told)) is refl a l t
 
-reading-over : (run : Call) (s : Status) (last : SinkView) (p : Parts) → DecodeLeaves p run.input run.out run.report s → IsRead s → Accepts Decode run.desc.before.left p → IsTrue run.input.tells → run.report.before.faults ≤ run.report.after.faults →
+reading-over : (ws : Words) (run : Call) (s : Status) (last : SinkView) (p : Parts) → DecodeLeaves ws p run.input run.out run.report s → IsRead s → Accepts Decode run.desc.before.left p → IsTrue run.input.tells → run.report.before.faults ≤ run.report.after.faults →
     GivesOrFails (line_call run.report last) (line_of s) → ReadAs (with_line run last) s
-reading-over run s last p (decoded h) q a it l t = read-as p run s last h h.answer refl h.status_is q it a l t
-reading-over run s last p (undecoded e still) q a it l t = absurd (subst IsRead e q)
+reading-over ws run s last p (decoded flag h) q a it l t = read-as p run s last h h.answer refl h.status_is q it a l t
+reading-over ws run s last p (salvaged flag h) q a it l t =
+    let d = plain-decoded p run.input run.out run.report s h it (read-none p run.input run.out run.report s h it q) in
+    read-as p run s last d d.answer refl d.status_is q it a l t
+reading-over ws run s last p (undecoded e still) q a it l t = absurd (subst IsRead e q)
 
 carried-read : (ws : Words) (command : Command) (run : Call) (s : Status) → CarryOutLeaves ws command run s → IsRead s → ServesDescribed ws command run s
 carried-read ws command run s (unread e failed still) q = absurd (subst IsRead e q)
@@ -184,16 +194,22 @@ pub run-reading : (texts : List (List ℕ)) (run : Call) (s : Status) (last : Si
     GivesOrFails (line_call run.report last) (line_of s) → OnCommand texts Decode (ReadsText (with_line run last) s)
 run-reading texts run s last h l t v k c q told it =
     let g : ServesDescribed v Decode run s = carried-read v Decode run s (subst (λ (y : Command). CarryOutLeaves v y run s) c (obeyed-carried texts run s h v k)) q in
-    reading-over run s last g.parts g.leaves q (g.accepted told) it l t
+    reading-over v run s last g.parts g.leaves q (g.accepted told) it l t
 
 -- all that encode and decode leave
 encoded-own : (p : Parts) (i : SourceCall) (o r : SinkCall) (s : Status) → IsOwn s → EncodeLeaves p i o r s → Encoded p i o s
 encoded-own p i o r s q (encoded h still) = h
 encoded-own p i o r s q (unencoded e still) = absurd (subst IsOwn e q)
 
-decoded-own : (p : Parts) (i : SourceCall) (o r : SinkCall) (s : Status) → IsOwn s → DecodeLeaves p i o r s → Decoded p i o r s
-decoded-own p i o r s q (decoded h) = h
-decoded-own p i o r s q (undecoded e still) = absurd (subst IsOwn e q)
+decoded-own : (ws : Words) (p : Parts) (i : SourceCall) (o r : SinkCall) (s : Status) → ws.salvage ≡ false → IsOwn s → DecodeLeaves ws p i o r s → Decoded p i o r s
+decoded-own ws p i o r s b q (decoded flag h) = h
+decoded-own ws p i o r s b q (salvaged flag h) = absurd (let k : true ≡ false = sym flag ∙ b in let z : ⊥ = cc in z)
+decoded-own ws p i o r s b q (undecoded e still) = absurd (subst IsOwn e q)
+
+salvaged-own : (ws : Words) (p : Parts) (i : SourceCall) (o r : SinkCall) (s : Status) → ws.salvage ≡ true → IsOwn s → DecodeLeaves ws p i o r s → SalvagedText p i o r s
+salvaged-own ws p i o r s b q (decoded flag h) = absurd (let k : true ≡ false = sym b ∙ flag in let z : ⊥ = cc in z)
+salvaged-own ws p i o r s b q (salvaged flag h) = h
+salvaged-own ws p i o r s b q (undecoded e still) = absurd (subst IsOwn e q)
 
 pub run-encoded : (texts : List (List ℕ)) (run : Call) (s : Status) (last : SinkView) → ObeyLeaves texts run s → OnCommand texts Encode (EncodesAs (with_line run last) s)
 run-encoded texts run s last h v k c q told =
@@ -201,14 +217,69 @@ run-encoded texts run s last h v k c q told =
     record { parts = g.parts; accepted = g.accepted told; encoded = encoded-own g.parts run.input run.out run.report s q g.leaves }
 
 pub run-decoded : (texts : List (List ℕ)) (run : Call) (s : Status) (last : SinkView) → ObeyLeaves texts run s → run.report.after.faults ≤ last.faults →
-    GivesOrFails (line_call run.report last) (line_of s) → OnCommand texts Decode (DecodesAs (with_line run last) s)
-run-decoded texts run s last h k t v l c q told =
+    GivesOrFails (line_call run.report last) (line_of s) → OnWords texts (λ w. w.command ≡ Decode → w.salvage ≡ false → DecodesAs (with_line run last) s)
+run-decoded texts run s last h k t v l c b q told =
     let g : ServesDescribed v Decode run s = described-at v Decode run s s (subst (λ (x : Command). CarryOutLeaves v x run s) c (obeyed-carried texts run s h v l)) refl q in
     record {
       parts = g.parts;
       accepted = g.accepted told;
       told = run.report.after;
       counted = k;
-      decoded = decoded-own g.parts run.input run.out run.report s q g.leaves;
+      decoded = decoded-own v g.parts run.input run.out run.report s b q g.leaves;
       line = t;
     }
+
+-- decoding that goes on past lost codewords
+pub run-salvaged : (texts : List (List ℕ)) (run : Call) (s : Status) (last : SinkView) → ObeyLeaves texts run s → run.report.after.faults ≤ last.faults →
+    GivesOrFails (line_call run.report last) (line_of s) → OnWords texts (λ w. w.command ≡ Decode → w.salvage ≡ true → SalvagesAs (with_line run last) s)
+run-salvaged texts run s last h k t v l c b q told =
+    let g : ServesDescribed v Decode run s = described-at v Decode run s s (subst (λ (x : Command). CarryOutLeaves v x run s) c (obeyed-carried texts run s h v l)) refl q in
+    record {
+      parts = g.parts;
+      accepted = g.accepted told;
+      told = run.report.after;
+      counted = k;
+      salvaged = salvaged-own v g.parts run.input run.out run.report s b q g.leaves;
+      line = t;
+    }
+
+rescued-over : (ws : Words) (p : Parts) (run : Call) (s : Status) (last : SinkView) → DecodeLeaves ws p run.input run.out run.report s → s ≡ Salvaged → IsTrue run.input.tells → Accepts Decode run.desc.before.left p →
+    GivesOrFails (line_call run.report last) (line_of s) → RescuedOver (with_line run last)
+rescued-over ws p run s last (decoded flag h) e it a t = decode-Salvaged h.answer (sym e ∙ h.status_is)
+rescued-over ws p run s last (salvaged flag h) e it a t =
+    let k = rescued p run.input run.out run.report s h it e in
+    record {
+      parts = p;
+      accepted = a;
+      lost = k.lost;
+      within = k.text.within;
+      ended = k.text.ended;
+      given = k.text.out;
+      told = gives-no_line run.report last (salvage_report (plain_form p) run.input.before.left) (line_of s) (ap line_of e) k.text.report t;
+    }
+rescued-over ws p run s last (undecoded n still) e it a t = absurd (let l : NoMemory ≡ Salvaged = sym n ∙ e in let z : ⊥ = cc in z)
+
+pub run-rescue : (texts : List (List ℕ)) (run : Call) (s : Status) (last : SinkView) → ObeyLeaves texts run s →
+    GivesOrFails (line_call run.report last) (line_of s) → OnCommand texts Decode (Rescues (with_line run last) s)
+run-rescue texts run s last h t v k c e told it =
+    let g : ServesDescribed v Decode run s = described-at v Decode run s Salvaged (subst (λ (x : Command). CarryOutLeaves v x run s) c (obeyed-carried texts run s h v k)) e tt in
+    rescued-over v g.parts run s last g.leaves e it (g.accepted told) t
+
+salvages-over : (ws : Words) (p : Parts) (run : Call) (s : Status) → DecodeLeaves ws p run.input run.out run.report s → ws.salvage ≡ true → IsTrue run.input.tells → NoneFailed run →
+    0 < lost_count (plain_form p) run.input.before.left → length run.input.before.left ≤ MOST_BYTES → (s ≡ Salvaged) ⊎ (s ≡ NoMemory)
+salvages-over ws p run s (decoded flag h) b it n some within = absurd (let k : true ≡ false = sym b ∙ flag in let z : ⊥ = cc in z)
+salvages-over ws p run s (salvaged flag h) b it n some within =
+    inl (salvages-all p run.input run.out run.report s h it (record { source = n.input; out = n.out; report = n.report }) some within)
+salvages-over ws p run s (undecoded e still) b it n some within = inr e
+
+pub run-salvages : (texts : List (List ℕ)) (run : Call) (s : Status) (last : SinkView) → ObeyLeaves texts run s → run.report.before.faults ≤ run.report.after.faults → run.report.after.faults ≤ last.faults →
+    OnWords texts (λ w. w.command ≡ Decode → w.salvage ≡ true → SalvagesExactly (with_line run last) s)
+run-salvages texts run s last h l k v q c b told it n p a some within =
+    let g : CarryOutLeaves v Decode run s = subst (λ (y : Command). CarryOutLeaves v y run s) c (obeyed-carried texts run s h v q) in
+    let first : NoneFailed run = none-first run last l k n in
+    elim (carried-served v Decode p run s g told first.desc a) [
+      | inl e ↦ inr e
+      | inr y ↦ salvages-over v p run s
+          (subst (λ (x : Parts). DecodeLeaves v x run.input run.out run.report s) (same-parts Decode run.desc.before.left y.parts p (y.accepted told) a) y.leaves)
+          b it first some within
+    ]

@@ -4,6 +4,7 @@ pub mod WordLemmas
 pub mod DesignLemmas
 pub mod TableLemmas
 pub mod StreamLemmas
+pub mod SalvageLemmas
 pub mod EraseLemmas
 pub mod EndLemmas
 pub mod StillLemmas

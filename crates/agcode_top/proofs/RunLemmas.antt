@@ -10,12 +10,11 @@ use Rattle.code_descriptor.specs.declared.DescCause.{DescCause}
 use Rattle.code_descriptor.specs.declared.DescCause.TheVariants.{TooLarge, NotToml, BadKey, BadField, BadSpace, BadDegrees, BadTerm, MissingLead, BadPoint, BadWeight, BadImproved, BadLayout, BadDepth, NoPoints, NothingFree}
 use Rattle.descriptor_code.specs.Plain.{IsFull}
 use Rattle.agcode_top.specs.declared.status.Status.{Status}
-use Rattle.agcode_top.specs.declared.status.Status.TheVariants.{Done, NoMemory, OutFault}
-use Rattle.agcode_top.specs.declared.needs.Needs.{Needs}
+use Rattle.agcode_top.specs.declared.status.Status.TheVariants.{Done, NoMemory}
 use Rattle.agcode_top.specs.declared.needs.Needs.TheVariants as need
-use Rattle.agcode_top.specs.Calls.{Call, SourceCall, SinkCall, Untouched, Writes, ReadsWell, still_source, still_sink}
-use Rattle.agcode_top.specs.Statuses.{CanSay, has_text, reads_input}
-use Rattle.agcode_top.specs.Commands.{has_points, needs, Refuses, RefusesParts, Says, SaysOnOut, IsInputTold, Saying, most_taken, TakesFor}
+use Rattle.agcode_top.specs.Calls.{Call, SourceCall, SinkCall, Writes, ReadsWell, still_source, still_sink}
+use Rattle.agcode_top.specs.Statuses.{has_text, reads_input}
+use Rattle.agcode_top.specs.Commands.{has_points, needs, Refuses, RefusesParts, Says, Saying, TakesFor}
 use Rattle.agcode_top.specs.Steps.{LeavesText}
 use Rattle.agcode_top.specs.Leaves.{AnswerLeaves, said, out_stopped, wanting, ServeLeaves, CompileAndServe, no_code, not_made, made, CarryOutLeaves, refused, unserved, served}
 

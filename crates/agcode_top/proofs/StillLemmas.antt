@@ -1,16 +1,10 @@
 -- What a run leaves untouched, takes and counts, and the line of its status
-use Rattle.std.proofs.Common.{◌≡◌, ℕ, ◌+◌, ◌-◌, ◌^◌, ◌<◌, ◌≤◌, ◌↔◌, List, [], ◌++◌, ◌∷◌, take, length, true, false, IsTrue, sym, ap, ◌∙◌, refl, inl, inr, ◌⊎◌, subst, arith, Result, Ok, Err, append-nil, length-append}
-use Rattle.std.proofs.lemmas.Bool.{cases_lt}
+use Rattle.std.proofs.Common.{◌≡◌, ℕ, ◌+◌, ◌-◌, ◌<◌, ◌≤◌, List, [], ◌++◌, ◌∷◌, take, length, true, false, IsTrue, sym, ap, ◌∙◌, refl, inl, inr, ◌⊎◌, subst, arith, Result, Ok, Err, append-nil, length-append}
 use Rattle.ag_io.specs.Counts.{Rose}
 use Rattle.ag_io.specs.Views.{SourceView, SinkView, GaveFront}
 use Rattle.command_words.specs.declared.words.Command.{Command}
 use Rattle.command_words.specs.declared.words.Words.{Words}
-use Rattle.command_words.specs.Lines.{IsCommandLine}
-use Rattle.command_words.proofs.LineLemmas.{line-says}
-use Rattle.command_words.specs.declared.words.Command.TheVariants.{Member, Points, Params, Bound, Check, Encode, Decode, Votes, Trial, Erase, Design}
-use Rattle.order_domain.specs.declared.Point.{Point}
-use Rattle.stored_form.specs.Form.{Form}
-use Rattle.stored_form.specs.Reading.{Reading, File, reading}
+use Rattle.command_words.specs.declared.words.Command.TheVariants.{Encode, Decode}
 use Rattle.stream_codec.specs.declared.encode.EncodeCounts.{EncodeCounts}
 use Rattle.stream_codec.specs.declared.encode.EncodeFault.{EncodeFault}
 use Rattle.stream_codec.specs.declared.encode.EncodeFault.TheVariants as encoding
@@ -21,26 +15,24 @@ use Rattle.stored_form.specs.Frame.{group_bytes}
 use Rattle.stream_codec.specs.declared.limits.TheConstants.{PIECE}
 use Rattle.std.proofs.lemmas.List.{length-take-le}
 use Rattle.stream_codec.specs.Taking.{taken_from, most_taken as most_of_pieces}
-use Rattle.stream_codec.specs.Encoded.{Encode as EncodeCall, EncodeFaultAs, EncodeToldAs}
-use Rattle.stream_codec.specs.Decoding.{Decode as DecodeCall, FaultAs, ToldAs, answer_by, answer_to}
-use Rattle.stream_codec.specs.Report.{counts_of}
-use Rattle.code_descriptor.specs.declared.DescCause.{DescCause}
+use Rattle.stream_codec.specs.Encoded.{EncodeToldAs}
+use Rattle.stream_codec.specs.Decoding.{ToldAs}
+use Rattle.stream_codec.specs.declared.salvage.SalvageCounts.{SalvageCounts}
+use Rattle.stream_codec.specs.Salvaging.{plain, SalvagedToldAs}
 use Rattle.code_descriptor.specs.Parts.{Parts}
-use Rattle.code_descriptor.proofs.OneMeaning.{one_meaning}
 use Rattle.descriptor_code.specs.Plain.{plain_form}
 use Rattle.stream_codec.specs.declared.limits.TheConstants.{MOST_BYTES}
-use Rattle.agcode_top.specs.declared.limit.TheConstants.{MOST_TABLE}
-use Rattle.code_descriptor.specs.declared.DescCause.TheVariants.{TooLarge, NotToml, BadKey, BadField, BadDegrees, BadTerm, MissingLead, BadPoint, BadWeight, BadImproved, BadLayout, BadDepth, NoPoints, NothingFree}
 use Rattle.agcode_top.specs.declared.status.Status.{Status}
 use Rattle.agcode_top.specs.declared.status.Status.TheVariants.{Done, NotCodeword, Beyond, Ragged, Framing, TableRefused, WordLength, Salvaged, BadMark, NoCodeword, Ambiguous, NoDesign, Usage, Descriptor, TooLong, DescFault, InputFault, OutFault, ReportFault, NoMemory}
-use Rattle.agcode_top.specs.Calls.{Call, SourceCall, SinkCall, Untouched, until, once_given, IsUntaken, IsUngiven, ReadFailed, WriteFailed, ReadsWell, WritesWell, Writes, StopsAt, GivesOrFails, NoneFailed, TakesJust, TakesAtMost}
-use Rattle.agcode_top.specs.Statuses.{OnWords, OnCommand, IsAnswer, IsEarly, IsOwn, IsQuiet, is_streamed, is_passing, has_text, tells_report, reads_input, TellsMore, CanSay, CanStop, CanEnd}
-use Rattle.agcode_top.specs.Commands.{has_points, Refuses, RefusesParts, Accepts, Says, SaysOnOut, SaysMember, SaysCheck, SaysVotes, is_in_code, not_in_code, not_long, is_table, no_table, too_long, is_near, is_far, not_n_long, IsNoWord, IsInputTold, TakesFor, most_taken}
+use Rattle.agcode_top.specs.Calls.{Call, SourceCall, SinkCall, Untouched, until, IsUngiven, ReadsWell, WritesWell, GivesOrFails, TakesJust, TakesAtMost}
+use Rattle.agcode_top.specs.Statuses.{OnWords, IsEarly, IsOwn, IsQuiet, is_streamed, is_passing, has_text, TellsMore, CanSay}
+use Rattle.agcode_top.specs.Commands.{Accepts, TakesFor, most_taken}
 use Rattle.agcode_top.specs.Lines.{line_of}
-use Rattle.agcode_top.specs.Streams.{Encoded, Decoded, encode_status, decode_status, encode_of, decode_of}
-use Rattle.agcode_top.specs.Leaves.{AnswerLeaves, said, out_stopped, report_stopped, input_stopped, wanting, EncodeLeaves, encoded, unencoded, DecodeLeaves, decoded, undecoded, ServeLeaves, ServesDescribed, CarryOutLeaves, unread, refused, unserved, served, ObeyLeaves}
-use Rattle.agcode_top.specs.Headline.{Answers, AnswersOver, AnswersPart, AnswersUntold, AnswersExactly, Yields, IsLike, RefusesBy, RefusesExactly, LeavesUntouched, LeavesUnread, TellsLine, TakesWithin, TellsNumber, KeepsCounts, IsFileText, IsValid, Completes}
-use Rattle.agcode_top.proofs.EndLemmas.{with_line, line_call, rose-later, stayed-top, stayed-front, Served, one_text, encodes, decodes, serves, serves-text, Ends, answer-ends, encode-ends, decode-ends, ends-at, served-ends, ends-can, ends-own, encode-InputFault, decode-InputFault, encode-OutFault, decode-OutFault, encode-ReportFault, decode-ReportFault, said-not, answer-InputFault, serve-InputFault, answer-OutFault, serve-OutFault, answer-ReportFault, serve-ReportFault, same-parts, refused-accepted, parts-cause, one-part-cause, one-cause, carried-served, obeyed-carried, described-ends, carried-not-Usage, described-at}
+use Rattle.agcode_top.specs.Streams.{encode_status, decode_status, salvage_status, encode_of, decode_of}
+use Rattle.agcode_top.proofs.SalvageLemmas.{not-salvaged, salvage-IsOwn}
+use Rattle.agcode_top.specs.Leaves.{AnswerLeaves, said, out_stopped, report_stopped, input_stopped, wanting, encoded, unencoded, decoded, salvaged, undecoded, CarryOutLeaves, unread, refused, unserved, served, ObeyLeaves}
+use Rattle.agcode_top.specs.Headline.{LeavesUntouched, LeavesUnread, TellsLine, TakesWithin, TellsNumber, KeepsCounts}
+use Rattle.agcode_top.proofs.EndLemmas.{with_line, line_call, Served, one_text, encodes, decodes, serves, serves-text, Ends, served-ends, ends-own, said-not, same-parts, obeyed-carried, described-ends, carried-not-Usage}
 
 -- what is left untouched
 pub unread-still : (before after : SourceView) → after ≡ before → after.left ≡ before.left
@@ -82,14 +74,16 @@ pub streamed-wanting : (ws : Words) (command : Command) (p : Parts) (i : SourceC
 streamed-wanting ws command p i o r s (one_text n h) t e = absurd (let k : true ≡ false = sym t ∙ n in let z : ⊥ = cc in z)
 streamed-wanting ws command p i o r s (encodes c (encoded h still)) t e = encode-NoMemory h.answer (sym e ∙ h.status_is)
 streamed-wanting ws command p i o r s (encodes c (unencoded k still)) t e = still
-streamed-wanting ws command p i o r s (decodes c (decoded h)) t e = decode-NoMemory h.answer (sym e ∙ h.status_is)
+streamed-wanting ws command p i o r s (decodes c (decoded flag h)) t e = decode-NoMemory h.answer (sym e ∙ h.status_is)
+streamed-wanting ws command p i o r s (decodes c (salvaged flag h)) t e = decode-NoMemory (plain h.answer) (not-salvaged h.answer NoMemory (sym e ∙ h.status_is) (λ k. let z : ⊥ = cc in z))
 streamed-wanting ws command p i o r s (decodes c (undecoded k still)) t e = still
 
 pub serve-wanting : (ws : Words) (command : Command) (p : Parts) (i : SourceCall) (o r : SinkCall) (s : Status) → Served ws command p i o r s → s ≡ NoMemory → o.after ≡ o.before
 serve-wanting ws command p i o r s (one_text n h) e = answer-wanting ws command p i o r s h e
 serve-wanting ws command p i o r s (encodes c (encoded h still)) e = encode-NoMemory h.answer (sym e ∙ h.status_is)
 serve-wanting ws command p i o r s (encodes c (unencoded k still)) e = still.out_still
-serve-wanting ws command p i o r s (decodes c (decoded h)) e = decode-NoMemory h.answer (sym e ∙ h.status_is)
+serve-wanting ws command p i o r s (decodes c (decoded flag h)) e = decode-NoMemory h.answer (sym e ∙ h.status_is)
+serve-wanting ws command p i o r s (decodes c (salvaged flag h)) e = decode-NoMemory (plain h.answer) (not-salvaged h.answer NoMemory (sym e ∙ h.status_is) (λ k. let z : ⊥ = cc in z))
 serve-wanting ws command p i o r s (decodes c (undecoded k still)) e = still.out_still
 
 pub carried-wanting : (ws : Words) (command : Command) (run : Call) (s : Status) → CarryOutLeaves ws command run s → s ≡ NoMemory → run.out.after ≡ run.out.before
@@ -172,8 +166,10 @@ pub serve-silent : (ws : Words) (command : Command) (p : Parts) (i : SourceCall)
 serve-silent ws command p i o r s (one_text k h) n = answer-silent ws command p i o r s h n
 serve-silent ws command p i o r s (encodes c (encoded h still)) n = silent-still r still
 serve-silent ws command p i o r s (encodes c (unencoded e still)) n = silent-still r still.report_still
-serve-silent ws command p i o r s (decodes c (decoded h)) n =
+serve-silent ws command p i o r s (decodes c (decoded flag h)) n =
     absurd (n (subst (λ (x : Command). TellsMore x s) (sym c) (subst (λ (t : Status). IsOwn t) (sym h.status_is) (decode-IsOwn h.answer))))
+serve-silent ws command p i o r s (decodes c (salvaged flag h)) n =
+    absurd (n (subst (λ (x : Command). TellsMore x s) (sym c) (subst (λ (t : Status). IsOwn t) (sym h.status_is) (salvage-IsOwn h.answer decode-IsOwn))))
 serve-silent ws command p i o r s (decodes c (undecoded e still)) n = silent-still r still.report_still
 
 pub carried-silent : (ws : Words) (command : Command) (run : Call) (s : Status) → CarryOutLeaves ws command run s → (TellsMore command s → ⊥) → IsSilent run.report
@@ -226,7 +222,8 @@ pub serve-most : (ws : Words) (command : Command) (p : Parts) (i : SourceCall) (
 serve-most ws command p i o r s (one_text n h) = answer-most ws command p i o r s h
 serve-most ws command p i o r s (encodes c (encoded h still)) = most-at command Encode p i c (most-sum i MOST_BYTES PIECE h.encoded.most)
 serve-most ws command p i o r s (encodes c (unencoded e still)) = still-most i (most_taken command p) still.input_still
-serve-most ws command p i o r s (decodes c (decoded h)) = most-at command Decode p i c (most-long i (most_of_pieces (group_bytes (plain_form p)) MOST_BYTES) h.decoded.most)
+serve-most ws command p i o r s (decodes c (decoded flag h)) = most-at command Decode p i c (most-long i (most_of_pieces (group_bytes (plain_form p)) MOST_BYTES) h.decoded.most)
+serve-most ws command p i o r s (decodes c (salvaged flag h)) = most-at command Decode p i c (most-long i (most_of_pieces (group_bytes (plain_form p)) MOST_BYTES) h.salvaged.most)
 serve-most ws command p i o r s (decodes c (undecoded e still)) = still-most i (most_taken command p) still.input_still
 
 pub carried-most : (ws : Words) (command : Command) (run : Call) (s : Status) (p : Parts) → CarryOutLeaves ws command run s → IsTrue run.desc.tells → Accepts command run.desc.before.left p → TakesAtMost (most_taken command p) run.input
@@ -279,6 +276,17 @@ number-decode p i o r taken (Err (decoding.Beyond group word)) h e = absurd (let
 number-decode p i o r taken (Err (decoding.Ragged extra)) h e = absurd (let z : ⊥ = cc in z)
 number-decode p i o r taken (Err decoding.Framing) h e = absurd (let z : ⊥ = cc in z)
 
+pub number-salvage : (p : Parts) (i : SourceCall) (o r : SinkCall) (taken : ℕ) (answer : Result SalvageCounts DecodeFault) → (IsTrue i.tells → SalvagedToldAs (decode_of (plain_form p) i o r) answer) → TooLong taken ≡ salvage_status answer → TakesJust taken i
+number-salvage p i o r taken (Ok counts) h e = absurd (let k : TooLong taken ≡ Done = not-salvaged (Ok counts) (TooLong taken) e (λ k. let z : ⊥ = cc in z) in let z : ⊥ = cc in z)
+number-salvage p i o r taken (Err decoding.InputFault) h e = absurd (let z : ⊥ = cc in z)
+number-salvage p i o r taken (Err decoding.OutFault) h e = absurd (let z : ⊥ = cc in z)
+number-salvage p i o r taken (Err decoding.ReportFault) h e = absurd (let z : ⊥ = cc in z)
+number-salvage p i o r taken (Err (decoding.TooLong other)) h e =
+    just-same i other taken (sym (same-taken taken other e)) (λ told. just-append i (taken_from i.before i.after) other (h told).left (h told).count_is)
+number-salvage p i o r taken (Err (decoding.Beyond group word)) h e = absurd (let z : ⊥ = cc in z)
+number-salvage p i o r taken (Err (decoding.Ragged extra)) h e = absurd (let z : ⊥ = cc in z)
+number-salvage p i o r taken (Err decoding.Framing) h e = absurd (let z : ⊥ = cc in z)
+
 pub no-word-length : (s : Status) (command x : Command) (taken : ℕ) {X : Type 0} → Ends s command → command ≡ x → (CanSay (WordLength taken) x → ⊥) → s ≡ WordLength taken → X
 no-word-length s command x taken (inl h) c none e = absurd (none (subst (λ (y : Command). CanSay (WordLength taken) y) c (subst (λ (t : Status). CanSay t command) e h)))
 no-word-length s command x taken (inr (inl h)) c none e = absurd (let k : OutFault ≡ WordLength taken = sym h ∙ e in let z : ⊥ = cc in z)
@@ -302,8 +310,10 @@ number-served ws command p i o r s taken (encodes c (encoded h still)) (inl e) =
 number-served ws command p i o r s taken (encodes c (encoded h still)) (inr e) = no-word-length s command Encode taken (served-ends ws command p i o r s (encodes c (encoded h still))) c (encode-no-word taken) e
 number-served ws command p i o r s taken (encodes c (unencoded k still)) (inl e) = absurd (let l : NoMemory ≡ TooLong taken = sym k ∙ e in let z : ⊥ = cc in z)
 number-served ws command p i o r s taken (encodes c (unencoded k still)) (inr e) = absurd (let l : NoMemory ≡ WordLength taken = sym k ∙ e in let z : ⊥ = cc in z)
-number-served ws command p i o r s taken (decodes c (decoded h)) (inl e) = number-decode p i o r taken h.answer h.decoded.told (sym e ∙ h.status_is)
-number-served ws command p i o r s taken (decodes c (decoded h)) (inr e) = no-word-length s command Decode taken (served-ends ws command p i o r s (decodes c (decoded h))) c (decode-no-word taken) e
+number-served ws command p i o r s taken (decodes c (decoded flag h)) (inl e) = number-decode p i o r taken h.answer h.decoded.told (sym e ∙ h.status_is)
+number-served ws command p i o r s taken (decodes c (decoded flag h)) (inr e) = no-word-length s command Decode taken (served-ends ws command p i o r s (decodes c (decoded flag h))) c (decode-no-word taken) e
+number-served ws command p i o r s taken (decodes c (salvaged flag h)) (inl e) = number-salvage p i o r taken h.answer h.salvaged.told (sym e ∙ h.status_is)
+number-served ws command p i o r s taken (decodes c (salvaged flag h)) (inr e) = no-word-length s command Decode taken (served-ends ws command p i o r s (decodes c (salvaged flag h))) c (decode-no-word taken) e
 number-served ws command p i o r s taken (decodes c (undecoded k still)) (inl e) = absurd (let l : NoMemory ≡ TooLong taken = sym k ∙ e in let z : ⊥ = cc in z)
 number-served ws command p i o r s taken (decodes c (undecoded k still)) (inr e) = absurd (let l : NoMemory ≡ WordLength taken = sym k ∙ e in let z : ⊥ = cc in z)
 

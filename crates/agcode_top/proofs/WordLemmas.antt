@@ -1,5 +1,5 @@
 -- How the commands that read a word end, by what was read and what was written
-use Rattle.std.proofs.Common.{◌≡◌, ◌≢◌, ℕ, ◌+◌, ◌≤◌, min, inl, inr, List, [], length, codes, Bool, true, false, IsTrue, arith, sym, ap, subst, ◌∙◌, refl, append-nil}
+use Rattle.std.proofs.Common.{◌≡◌, ◌≢◌, ℕ, ◌+◌, ◌≤◌, min, inl, inr, List, [], length, codes, Bool, true, false, IsTrue, arith, sym, ap, subst, ◌∙◌, refl}
 use Rattle.block_theory.specs.Checks.{ParityChecks, IsInCode}
 use Rattle.block_theory.proofs.Forms.{code_law}
 use Rattle.block_theory.proofs.Lists.{distance_same}
@@ -25,12 +25,11 @@ use Rattle.agcode_top.specs.declared.status.Status.TheVariants.{Done, NotCodewor
 use Rattle.ag_io.specs.Views.{SourceView, SinkView}
 use Rattle.agcode_top.specs.declared.limit.TheConstants.{MOST_TABLE}
 use Rattle.stream_codec.specs.declared.limits.TheConstants.{PIECE}
-use Rattle.agcode_top.specs.declared.input.InputFault.{InputFault as ReadFault}
 use Rattle.agcode_top.specs.declared.input.InputFault.TheVariants as reading
 use Rattle.agcode_top.specs.Inputs.{IsInputFault}
-use Rattle.agcode_top.specs.Commands.{IsNoWord, IsInputTold, Says, SaysMember, SaysCheck, SaysVotes, is_in_code, not_in_code, not_long, is_table, no_table, too_long, is_near, is_far, not_n_long, HasParameters, points_text, AcceptsTable, RefusesTable, IsNearWord, HasVotes, IsFar, Saying, most_taken, TakesFor}
-use Rattle.agcode_top.specs.Calls.{SourceCall, SinkCall, IsUngiven, IsEnded, ReadsWell, TakesJust, TakesAtMost, still_source, still_sink}
-use Rattle.agcode_top.specs.Statuses.{CanSay, has_text, reads_input}
+use Rattle.agcode_top.specs.Commands.{IsNoWord, Says, is_in_code, not_in_code, not_long, is_table, no_table, too_long, is_near, is_far, not_n_long, HasParameters, points_text, AcceptsTable, RefusesTable, IsNearWord, HasVotes, IsFar, most_taken}
+use Rattle.agcode_top.specs.Calls.{SourceCall, SinkCall, IsEnded, ReadsWell, TakesJust, TakesAtMost, still_source, still_sink}
+use Rattle.agcode_top.specs.Statuses.{CanSay, reads_input}
 use Rattle.agcode_top.specs.Steps.{IsWordFault, LeavesText, SaysOf}
 use Rattle.agcode_top.specs.Leaves.{AnswerLeaves, wanting, input_stopped}
 use Rattle.agcode_top.proofs.RunLemmas.{answered, said-only, saying-done}

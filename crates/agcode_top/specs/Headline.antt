@@ -30,8 +30,14 @@
 -- AnswersExactly      a command that writes one text ends with what it says, or with a status to which that yields
 -- EncodesAs           encode: all that is known of the input and out by the status that it ended with
 -- EncodedOver         .. over a descriptor of these parts
--- DecodesAs           decode: all that is known of the input, out and report by the status that it ended with
+-- DecodesAs           decode, where it ends at a lost codeword: all that is known of the input, out and report by the status that it ended with
 -- DecodedOver         .. over a descriptor of these parts; the line of the status was told last
+-- Rescues             decode that goes on past lost codewords: Salvaged comes only where a codeword is lost
+-- RescuedOver         .. the input was read to its end, and what is kept of it is on out, its lines and last lines on report
+-- SalvagesExactly     .. and wherever one is, unless memory was wanting, where no count rose and the input is within the
+--                     limit
+-- SalvagesAs          .. all that is known of the input, out and report by the status that it ended with
+-- SalvagedOver        .. over a descriptor of these parts; the line of the status was told last
 -- LeavesUntouched     Usage, DescFault, Descriptor, NoMemory: nothing was given on out; at the first three nothing was
 --                     taken of the input, and at the first nothing of the descriptor
 -- LeavesUnread        encode and decode: where memory was wanting, nothing was taken of the input
@@ -41,7 +47,7 @@
 -- TellsNumber         a status that tells a number of bytes taken tells just that number
 -- KeepsCounts         a command that writes one text: where it did not end with a fault of a source or sink, no call of
 --                     that one failed, but for the write of the last line; a read may also fail where it passes a limit
-use Rattle.std.specs.Prelude.{◌≡◌, ℕ, ◌≤◌, List, [], ◌++◌, length, IsTrue, true, false, ◌⊎◌}
+use Rattle.std.specs.Prelude.{◌≡◌, ℕ, ◌<◌, ◌≤◌, List, [], ◌++◌, length, IsTrue, true, false, ◌⊎◌}
 use Rattle.ag_io.specs.Views.{SinkView}
 use Rattle.ag_texts.specs.Lines.{done_line_of}
 use Rattle.stored_form.specs.Form.{Form}
@@ -49,7 +55,9 @@ use Rattle.stored_form.specs.Frame.{IsFile, image}
 use Rattle.stored_form.specs.Reading.{Reading, File, group_count, blocks, reading, out as output}
 use Rattle.stored_form.specs.Reading.{Beyond as ReadBeyond, Ragged as ReadRagged, Framing as ReadFraming}
 use Rattle.stored_form.specs.Reading.{IsNearImage, differences}
+use Rattle.stored_form.specs.Salvage.{lost_count, salvage_out}
 use Rattle.stream_codec.specs.Report.{lines_of, lines, done}
+use Rattle.stream_codec.specs.Salvaging.{salvage_report}
 use Rattle.command_words.specs.declared.words.Command.{Command}
 use Rattle.command_words.specs.declared.words.Command.TheVariants.{Member, Points, Params, Bound, Check}
 use Rattle.command_words.specs.declared.words.Command.TheVariants.{Encode, Decode, Votes, Trial, Erase, Design}
@@ -63,7 +71,7 @@ use Rattle.descriptor_design.specs.Plans.{HasMany}
 use Rattle.stream_codec.specs.declared.limits.TheConstants.{MOST_BYTES}
 use Rattle.agcode_top.specs.declared.limit.TheConstants.{MOST_TABLE}
 use Rattle.agcode_top.specs.declared.status.Status.{Status}
-use Rattle.agcode_top.specs.declared.status.Status.TheVariants.{Done, Beyond, Ragged, Framing}
+use Rattle.agcode_top.specs.declared.status.Status.TheVariants.{Done, Beyond, Ragged, Framing, Salvaged}
 use Rattle.agcode_top.specs.declared.status.Status.TheVariants.{TableRefused, WordLength, TooLong}
 use Rattle.agcode_top.specs.declared.status.Status.TheVariants.{Usage, Descriptor, DescFault, InputFault}
 use Rattle.agcode_top.specs.declared.status.Status.TheVariants.{OutFault, ReportFault, NoMemory}
@@ -76,7 +84,7 @@ use Rattle.agcode_top.specs.Lines.{line_of}
 use Rattle.agcode_top.specs.Erase.{IsFillable}
 use Rattle.agcode_top.specs.Commands.{Accepts, Refuses, IsInputTold, IsNearCode, Says, TakesFor, PassesAt}
 use Rattle.agcode_top.specs.Commands.{most_taken}
-use Rattle.agcode_top.specs.Streams.{Encoded, Decoded}
+use Rattle.agcode_top.specs.Streams.{Encoded, Decoded, SalvagedText}
 
 pub record HasImage (c : Call) : Type 0 where
   pub parts : Parts
@@ -242,6 +250,37 @@ pub record DecodedOver (c : Call) (status : Status) : Type 0 where
 
 abbrev pub DecodesAs : Call → Status → Type 0
 DecodesAs c status = IsOwn status → IsTrue c.desc.tells → DecodedOver c status
+
+pub record RescuedOver (c : Call) : Type 0 where
+  pub parts : Parts
+  pub accepted : Accepts Decode c.desc.before.left parts
+  pub lost : 0 < lost_count (plain_form parts) c.input.before.left
+  pub within : length c.input.before.left ≤ MOST_BYTES
+  pub ended : c.input.after.left ≡ []
+  pub given : GivesText c.out (salvage_out (plain_form parts) c.input.before.left)
+  pub told : GivesText c.report (salvage_report (plain_form parts) c.input.before.left)
+
+abbrev pub Rescues : Call → Status → Type 0
+Rescues c status = status ≡ Salvaged → IsTrue c.desc.tells → IsTrue c.input.tells → RescuedOver c
+
+abbrev pub SalvagesExactly : Call → Status → Type 0
+SalvagesExactly c status =
+    IsTrue c.desc.tells → IsTrue c.input.tells → NoneFailed c →
+    (p : Parts) → Accepts Decode c.desc.before.left p →
+    0 < lost_count (plain_form p) c.input.before.left → length c.input.before.left ≤ MOST_BYTES →
+    (status ≡ Salvaged) ⊎ (status ≡ NoMemory)
+
+pub record SalvagedOver (c : Call) (status : Status) : Type 0 where
+  pub parts : Parts
+  pub accepted : Accepts Decode c.desc.before.left parts
+  -- report before the line of the status
+  pub told : SinkView
+  pub counted : told.faults ≤ c.report.after.faults
+  pub salvaged : SalvagedText parts c.input c.out (until c.report told) status
+  pub line : GivesOrFails (since c.report told) (line_of status)
+
+abbrev pub SalvagesAs : Call → Status → Type 0
+SalvagesAs c status = IsOwn status → IsTrue c.desc.tells → SalvagedOver c status
 
 pub record LeavesUntouched (c : Call) (status : Status) : Type 0 where
   pub desc : status ≡ Usage → IsUntaken c.desc

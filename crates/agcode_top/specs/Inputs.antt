@@ -4,7 +4,7 @@
 -- TookBytes       a piece of the input was added to a text
 -- Took            .. of PIECE bytes, or of fewer at the end of the input; or so many bytes were taken before a read failed
 -- TookPiece       at most PIECE bytes were taken, and no read failed
-use Rattle.std.specs.Prelude.{◌≡◌, ℕ, ◌+◌, ◌<◌, ◌≤◌, ◌++◌, min, IsTrue, List, [], length}
+use Rattle.std.specs.Prelude.{◌≡◌, ℕ, ◌+◌, ◌<◌, ◌≤◌, ◌++◌, min, IsTrue, List, length}
 use Rattle.agcode_top.specs.Calls.{SourceCall, IsEnded, TakesJust, TakesAtMost, ReadFailed, ReadsWell}
 use Rattle.stream_codec.specs.declared.limits.TheConstants.{PIECE}
 use Rattle.agcode_top.specs.declared.input.InputFault.{InputFault}

@@ -7,7 +7,7 @@
 -- Wanting               memory was wanting
 -- AnswerLeaves          one of these
 -- EncodeLeaves          encode did its work, or memory was wanting, and nothing was touched
--- DecodeLeaves          the same of decode
+-- DecodeLeaves          the same of decode, which may be asked to go on past lost codewords
 -- ServeLeaves           what any command leaves over a descriptor of these parts, which it accepts
 -- CompileAndServe       the same, where the command also makes the code of the descriptor
 -- ServesDescribed       a command accepts the parts that the text of the descriptor describes, and served them
@@ -15,7 +15,7 @@
 -- RefusesWords          the words are no command line: usage, and nothing was touched
 -- CarriesOutWords       the words are a command line, and its command was carried out
 -- ObeyLeaves            one of these
-use Rattle.std.specs.Prelude.{◌≡◌, ℕ, List, IsTrue, true, ◌⊎◌}
+use Rattle.std.specs.Prelude.{◌≡◌, ℕ, List, IsTrue, true, false, ◌⊎◌}
 use Rattle.command_words.specs.declared.words.Command.{Command}
 use Rattle.command_words.specs.declared.words.Command.TheVariants.{Encode, Decode}
 use Rattle.command_words.specs.declared.words.Words.{Words}
@@ -29,7 +29,7 @@ use Rattle.agcode_top.specs.Calls.{Call, SourceCall, SinkCall, Untouched, TakesA
 use Rattle.agcode_top.specs.Calls.{ReadFailed, ReadsWell, Writes, StopsAt}
 use Rattle.agcode_top.specs.Statuses.{OnWords, reads_input, tells_report, TellsMore, has_text}
 use Rattle.agcode_top.specs.Commands.{Refuses, RefusesParts, Accepts, Saying, most_taken}
-use Rattle.agcode_top.specs.Streams.{Encoded, Decoded}
+use Rattle.agcode_top.specs.Streams.{Encoded, Decoded, SalvagedText}
 
 pub record Said (asked : Words) (command : Command) (p : Parts) (input : SourceCall) (out report : SinkCall)
     (status : Status) : Type 0 where
@@ -93,13 +93,16 @@ pub data EncodeLeaves (p : Parts) (input : SourceCall) (out report : SinkCall) (
   encoded : Encoded p input out status → report.after ≡ report.before → EncodeLeaves p input out report status
   unencoded : status ≡ NoMemory → Untouched input out report → EncodeLeaves p input out report status
 
-pub data DecodeLeaves (p : Parts) (input : SourceCall) (out report : SinkCall) (status : Status) : Type 0 where
-  decoded : Decoded p input out report status → DecodeLeaves p input out report status
-  undecoded : status ≡ NoMemory → Untouched input out report → DecodeLeaves p input out report status
+pub data DecodeLeaves (asked : Words) (p : Parts) (input : SourceCall) (out report : SinkCall) (status : Status)
+    : Type 0 where
+  decoded : asked.salvage ≡ false → Decoded p input out report status → DecodeLeaves asked p input out report status
+  salvaged : asked.salvage ≡ true → SalvagedText p input out report status →
+      DecodeLeaves asked p input out report status
+  undecoded : status ≡ NoMemory → Untouched input out report → DecodeLeaves asked p input out report status
 
 abbrev pub ServeLeaves : Words → Command → Parts → SourceCall → SinkCall → SinkCall → Status → Type 0
 ServeLeaves asked Encode p input out report status = EncodeLeaves p input out report status
-ServeLeaves asked Decode p input out report status = DecodeLeaves p input out report status
+ServeLeaves asked Decode p input out report status = DecodeLeaves asked p input out report status
 ServeLeaves asked command p input out report status = AnswerLeaves asked command p input out report status
 
 pub data CompileAndServe (asked : Words) (command : Command) (p : Parts) (input : SourceCall) (out report : SinkCall)

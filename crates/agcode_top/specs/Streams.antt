@@ -1,10 +1,12 @@
 -- encode_status    the status of what an encoded stream answers
 -- decode_status    the status of what a decoded stream answers
+-- salvage_status   the status of what a salvage answers
 -- encode_of        an encoding of the input, as the streams see it
 -- decode_of        a decoding of the input, as the streams see it
 -- Encoded          what encoding an input with the code of a descriptor answers, by the status
 -- Decoded          the same of decoding
-use Rattle.std.specs.Prelude.{◌≡◌, Result, Ok, Err}
+-- SalvagedText     the same of a salvage
+use Rattle.std.specs.Prelude.{◌≡◌, nat_eq, if◌then◌else◌, Result, Ok, Err}
 use Rattle.stored_form.specs.Form.{Form, IsSound}
 use Rattle.stream_codec.specs.declared.encode.EncodeCounts.{EncodeCounts}
 use Rattle.stream_codec.specs.declared.encode.EncodeFault.{EncodeFault}
@@ -14,11 +16,13 @@ use Rattle.stream_codec.specs.declared.decode.DecodeFault.{DecodeFault}
 use Rattle.stream_codec.specs.declared.decode.DecodeFault.TheVariants as decoding
 use Rattle.stream_codec.specs.Encoded.{Encode, EncodedAs, EncodesAll}
 use Rattle.stream_codec.specs.Decoding.{Decode, DecodedAs, IsComplete}
+use Rattle.stream_codec.specs.declared.salvage.SalvageCounts.{SalvageCounts}
+use Rattle.stream_codec.specs.Salvaging.{SalvagedAs, DecodesAlike, IsSalvaged}
 use Rattle.code_descriptor.specs.Parts.{Parts}
 use Rattle.descriptor_code.specs.Plain.{plain_form}
 use Rattle.stream_codec.specs.declared.limits.TheConstants.{MOST_BYTES}
 use Rattle.agcode_top.specs.declared.status.Status.{Status}
-use Rattle.agcode_top.specs.declared.status.Status.TheVariants.{Done, Beyond, Ragged, Framing, TooLong}
+use Rattle.agcode_top.specs.declared.status.Status.TheVariants.{Done, Beyond, Ragged, Framing, Salvaged, TooLong}
 use Rattle.agcode_top.specs.declared.status.Status.TheVariants.{InputFault, OutFault, ReportFault}
 use Rattle.agcode_top.specs.Calls.{SourceCall, SinkCall}
 
@@ -37,6 +41,10 @@ decode_status (Err (decoding.TooLong taken)) = TooLong taken
 decode_status (Err (decoding.Beyond group word)) = Beyond group word
 decode_status (Err (decoding.Ragged extra)) = Ragged extra
 decode_status (Err decoding.Framing) = Framing
+
+abbrev pub salvage_status : Result SalvageCounts DecodeFault → Status
+salvage_status (Ok counts) = if nat_eq counts.lost 0 then Done else Salvaged
+salvage_status (Err fault) = decode_status (Err fault)
 
 abbrev pub encode_of : Form → SourceCall → SinkCall → Encode
 encode_of F input out = record {
@@ -77,3 +85,11 @@ pub record Decoded (p : Parts) (input : SourceCall) (out report : SinkCall) (sta
   pub status_is : status ≡ decode_status answer
   pub decoded : DecodedAs (decode_of (plain_form p) input out report) answer
   pub complete : IsComplete (decode_of (plain_form p) input out report) answer
+
+pub record SalvagedText (p : Parts) (input : SourceCall) (out report : SinkCall) (status : Status) : Type 0 where
+  pub sound : IsSound (plain_form p)
+  pub answer : Result SalvageCounts DecodeFault
+  pub status_is : status ≡ salvage_status answer
+  pub salvaged : SalvagedAs (decode_of (plain_form p) input out report) answer
+  pub alike : DecodesAlike (decode_of (plain_form p) input out report) answer
+  pub complete : IsSalvaged (decode_of (plain_form p) input out report) answer

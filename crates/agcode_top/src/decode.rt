@@ -3,15 +3,19 @@
 ghost use Rattle.std.specs.Prelude.{◌≡◌, ℕ, ◌≤◌};
 ghost use Rattle.agcode_top.specs.Calls.{source_call, sink_call};
 ghost use Rattle.agcode_top.specs.Leaves.{DecodeLeaves};
-ghost use Rattle.agcode_top.specs.Streams.{decode_status};
+ghost use Rattle.agcode_top.specs.Streams.{decode_status, salvage_status};
 
 use crate::status::Status;
 use ag_io::{Sink, Source};
-use ag_pool::{Gate, Workers};
+use ag_pool::Gate;
+use command_words::Words;
 use descriptor_code::DescribedCode;
 use std::alloc::Global;
 use std::thread::Threads;
-use stream_codec::{DecodeCounts, DecodeFault, DecodeRoom, MOST_BYTES, decode_stream, layout_of};
+use stream_codec::{
+    DecodeCounts, DecodeFault, DecodeRoom, MOST_BYTES, SalvageCounts, decode_stream, layout_of,
+    salvage_stream,
+};
 
 // The status of an answer.
 fn status_of(answer: Result<DecodeCounts, DecodeFault>) -> Status
@@ -29,19 +33,35 @@ fn status_of(answer: Result<DecodeCounts, DecodeFault>) -> Status
     }
 }
 
-/// Writes the file that the input is the encoded text of, and tells its changes. All memory is taken before the first byte
-/// of the input.
+// The status of an answer of a salvage.
+fn salvage_status_of(answer: Result<SalvageCounts, DecodeFault>) -> Status
+    ensures { result ≡ salvage_status answer }
+{
+    match answer {
+        Ok(counts) => {
+            if counts.lost == 0 {
+                Status::Done
+            } else {
+                Status::Salvaged
+            }
+        }
+        Err(fault) => status_of(Err(fault)),
+    }
+}
+
+/// Writes the file that the input is the encoded text of, and tells its changes. Where it is asked to, it goes on past lost
+/// codewords, writes what is left, and tells these too. All memory is taken before the first byte of the input.
 pub fn decode<X: Threads + Sync, I: Source, O: Sink, R: Sink, G: Gate>(
     rt: &X,
     alloc: Global,
     described: &DescribedCode,
-    workers: Workers,
+    asked: &Words,
     input: &mut I,
     out: &mut O,
     report: &mut R,
     gate: &G,
 ) -> Status
-    ensures leaves { DecodeLeaves described.now
+    ensures leaves { DecodeLeaves asked.now described.now
         (source_call I.Source input.old input.new)
         (sink_call O.Sink out.old out.new)
         (sink_call R.Sink report.old report.new) result }
@@ -51,8 +71,12 @@ pub fn decode<X: Threads + Sync, I: Source, O: Sink, R: Sink, G: Gate>(
 {
     let code = described.code();
     let layout = layout_of(code, described.depth(), described.is_packed());
-    let Ok(mut room) = DecodeRoom::new(alloc, code, &layout, workers) else {
+    let Ok(mut room) = DecodeRoom::new(alloc, code, &layout, asked.workers) else {
         return Status::NoMemory;
     };
+    if asked.salvage {
+        let answer = salvage_stream(rt, code, &mut room, input, out, report, MOST_BYTES, gate);
+        return salvage_status_of(answer);
+    }
     status_of(decode_stream(rt, code, &mut room, input, out, report, MOST_BYTES, gate))
 }

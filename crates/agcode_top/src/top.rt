@@ -1,6 +1,6 @@
 //! The top call.
 
-ghost use Rattle.std.specs.Prelude.{◌≡◌, ℕ, ◌+◌, ◌≤◌, ◌↔◌, map, false};
+ghost use Rattle.std.specs.Prelude.{◌≡◌, ℕ, ◌+◌, ◌≤◌, ◌↔◌, map, true, false};
 ghost use Rattle.std.specs.String.{string_bytes};
 ghost use Rattle.ag_io.specs.Counts.{Rose};
 ghost use Rattle.command_words.specs.declared.words.Command.TheVariants.{Encode, Decode};
@@ -10,6 +10,7 @@ ghost use Rattle.agcode_top.specs.Lines.{line_of};
 ghost use Rattle.agcode_top.specs.Headline.{StoresImage, Repairs, ReadsText, Completes, RefusesBy};
 ghost use Rattle.agcode_top.specs.Headline.{Answers, RefusesExactly, AnswersExactly, EncodesAs, DecodesAs};
 ghost use Rattle.agcode_top.specs.Headline.{AnswersPart, AnswersUntold, LeavesUntouched, LeavesUnread};
+ghost use Rattle.agcode_top.specs.Headline.{Rescues, SalvagesExactly, SalvagesAs};
 ghost use Rattle.agcode_top.specs.Headline.{TellsLine, TakesWithin, TellsNumber, KeepsCounts};
 
 use crate::obey::obey;
@@ -78,7 +79,21 @@ pub fn run<X: Threads + Sync, D: Source, I: Source, O: Sink, R: Sink, G: Gate>(
     ensures encoded { OnCommand (map string_bytes words.now) Encode (EncodesAs (call
         D.Source desc.old desc.new I.Source input.old input.new
         O.Sink out.old out.new R.Sink report.old report.new) result) }
-    ensures decoded { OnCommand (map string_bytes words.now) Decode (DecodesAs (call
+    ensures decoded { OnWords (map string_bytes words.now) (λ w.
+        w.command ≡ Decode → w.salvage ≡ false → DecodesAs (call
+        D.Source desc.old desc.new I.Source input.old input.new
+        O.Sink out.old out.new R.Sink report.old report.new) result) }
+
+    // Decoding that goes on past lost codewords.
+    ensures salvaged { OnWords (map string_bytes words.now) (λ w.
+        w.command ≡ Decode → w.salvage ≡ true → SalvagesAs (call
+        D.Source desc.old desc.new I.Source input.old input.new
+        O.Sink out.old out.new R.Sink report.old report.new) result) }
+    ensures rescue { OnCommand (map string_bytes words.now) Decode (Rescues (call
+        D.Source desc.old desc.new I.Source input.old input.new
+        O.Sink out.old out.new R.Sink report.old report.new) result) }
+    ensures salvages { OnWords (map string_bytes words.now) (λ w.
+        w.command ≡ Decode → w.salvage ≡ true → SalvagesExactly (call
         D.Source desc.old desc.new I.Source input.old input.new
         O.Sink out.old out.new R.Sink report.old report.new) result) }
 

@@ -134,12 +134,18 @@ fn what_a_design_is_wanted_for(rt: HostRuntime) -> Result<(), Fail> {
 }
 
 #[test]
-fn what_is_not_built_is_refused(rt: HostRuntime) -> Result<(), Fail> {
+fn whether_decoding_goes_on_past_lost_codewords(rt: HostRuntime) -> Result<(), Fail> {
     let alloc = rt.alloc();
+    for (line, salvage) in [
+        ("decode D", false),
+        ("decode --salvage D", true),
+        ("decode --salvage --workers 2 D", true),
+        ("decode --workers 2 --salvage D", true),
+    ] {
+        let words = read(alloc, line)?.ok_or("accepted")?;
+        assert_eq!(rt; words.salvage, salvage, "{line}");
+    }
     for line in [
-        "decode --salvage D",
-        "decode --salvage --workers 2 D",
-        "decode --workers 2 --salvage D",
         "decode --salvage=1 D",
         "decode --salvage --salvage D",
         "decode --workers --salvage D",
@@ -151,7 +157,7 @@ fn what_is_not_built_is_refused(rt: HostRuntime) -> Result<(), Fail> {
 }
 
 #[test]
-fn the_grammar_of_what_is_not_built(rt: HostRuntime) -> Result<(), Fail> {
+fn a_flag_has_no_value(rt: HostRuntime) -> Result<(), Fail> {
     assert_eq!(rt; flag_named("--salvage"), Some(FlagName::Salvage));
     assert_eq!(rt; flag_named("--salvage=1"), None);
     assert_eq!(rt; option_named("--salvage"), None);

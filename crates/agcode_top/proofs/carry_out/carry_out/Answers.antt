@@ -1,7 +1,7 @@
 use Rattle.std.proofs.Common.{refl, ap, Err, sym, ◌∙◌}
 use Rattle.command_words.specs.declared.words.Command.TheVariants.{Points, Design}
 use Rattle.agcode_top.specs.Calls.{Call, call}
-use Rattle.agcode_top.specs.Leaves.{unread, refused, unserved, made}
+use Rattle.agcode_top.specs.Leaves.{refused, made}
 use Rattle.agcode_top.proofs.RunLemmas.{carry_out-at, carry_out-compiled, takes-all, read-describes, read-refused}
 use Rattle.agcode_top.proofs.DesignLemmas.{needs-Space, needs-Basis}
 use Rattle.agcode_top.proofs.carry_out.carry_out.Goals as goal

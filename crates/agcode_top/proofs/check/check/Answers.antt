@@ -1,4 +1,4 @@
-use Rattle.std.proofs.Common.{◌∙◌, ap, codes, refl, ℕ}
+use Rattle.std.proofs.Common.{◌∙◌, ap, codes, ℕ}
 use Rattle.ag_texts.specs.Lines.{number_line_of}
 use Rattle.agcode_top.proofs.WordLemmas.{check-accepts, check-refuses, check-long}
 use Rattle.agcode_top.proofs.check.check.Goals as goal

@@ -1,8 +1,6 @@
-use Rattle.std.proofs.Common.{refl, subst, ◌≡◌}
-use Rattle.command_words.specs.declared.words.Command.TheVariants.{Design}
+use Rattle.std.proofs.Common.{refl, subst}
 use Rattle.code_descriptor.specs.declared.DescCause.TheVariants.{NoPoints}
 use Rattle.descriptor_design.specs.Plans.{DesignsFor}
-use Rattle.agcode_top.specs.declared.needs.Needs.TheVariants as need
 use Rattle.agcode_top.specs.Leaves.{no_code}
 use Rattle.agcode_top.proofs.RunLemmas.{has_points-from, points-some, points-none}
 use Rattle.agcode_top.proofs.DesignLemmas.{design-has, design-none, design-not-space}

@@ -1,4 +1,4 @@
-use Rattle.std.proofs.Common.{◌≡◌, ◌∙◌, ap, sym, ℕ, ◌*◌, length, List, subst}
+use Rattle.std.proofs.Common.{◌∙◌, ap, ℕ, ◌*◌, List, subst}
 use Rattle.agcode_top.specs.Calls.{sink_call}
 use Rattle.agcode_top.specs.Filled.{FillLeaves}
 use Rattle.agcode_top.proofs.EraseLemmas.{erase-fault, erase-read}

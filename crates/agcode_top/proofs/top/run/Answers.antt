@@ -1,7 +1,7 @@
 use Rattle.agcode_top.proofs.StillLemmas.{run-quiet, run-early, run-unread, run-line, run-usage_line, run-taken, run-number, run-kept}
 use Rattle.agcode_top.proofs.CauseLemmas.{run-usage, run-own, run-desc_fault, run-input_fault, run-out_fault, run-report_fault, run-descriptor, run-refused, run-complete}
 use Rattle.agcode_top.proofs.AnswerLemmas.{run-answer, run-exactly, run-part, run-untold}
-use Rattle.agcode_top.proofs.HeadlineLemmas.{run-encode, run-repair, run-reading, run-encoded, run-decoded}
+use Rattle.agcode_top.proofs.HeadlineLemmas.{run-encode, run-repair, run-reading, run-encoded, run-decoded, run-salvaged, run-rescue, run-salvages}
 use Rattle.agcode_top.proofs.top.run.Goals as goal
 
 pub returns-clause-usage : goal.returns-clause-usage
@@ -81,3 +81,12 @@ returns-clause-encoded g c = run-encoded _ _ _ (g.R.Sink.view c.tell.new.report)
 
 pub returns-clause-decoded : goal.returns-clause-decoded
 returns-clause-decoded g c = run-decoded _ _ _ (g.R.Sink.view c.tell.new.report) c.obey-status.ensures.leaves c.tell.ensures.counted c.tell.ensures.given
+
+pub returns-clause-salvaged : goal.returns-clause-salvaged
+returns-clause-salvaged g c = run-salvaged _ _ _ (g.R.Sink.view c.tell.new.report) c.obey-status.ensures.leaves c.tell.ensures.counted c.tell.ensures.given
+
+pub returns-clause-rescue : goal.returns-clause-rescue
+returns-clause-rescue g c = run-rescue _ _ _ (g.R.Sink.view c.tell.new.report) c.obey-status.ensures.leaves c.tell.ensures.given
+
+pub returns-clause-salvages : goal.returns-clause-salvages
+returns-clause-salvages g c = run-salvages _ _ _ (g.R.Sink.view c.tell.new.report) c.obey-status.ensures.leaves c.obey-status.ensures.report_counted c.tell.ensures.counted

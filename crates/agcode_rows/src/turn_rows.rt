@@ -1,0 +1,229 @@
+//! Each call of the descriptor, the input, out and report fails in turn, until a run ends to which none does.
+
+use crate::bound_rows::TABLE;
+use crate::descriptors::HERMITIAN_4;
+use crate::rig::{Ends, Row, WORKING, done, is_met, missed, stopped};
+use agcode_top::Status;
+use std::alloc::{AllocError, Global};
+use std::test::Fail;
+use std::thread::Threads;
+
+const EMPTY: [u8; 8] = [2, 0, 0, 2, 3, 1, 2, 0];
+
+const BYTE_41: [u8; 16] = [1, 0, 0, 1, 2, 3, 1, 0, 1, 2, 0, 3, 0, 3, 0, 3];
+
+const POINTS: &[u8] = b"[0, 0],\n[0, 1],\n[1, 2],\n[1, 3],\n[2, 2],\n[2, 3],\n[3, 2],\n[3, 3],\n";
+
+const PARAMS: &[u8] =
+    b"n 8\nk 3\nchecks 5\nbound 5\nt 2\nlabels 0 2 3 4 5 6 7 9\nchecked 0 2 3 4 5\nrelation 3:1 6:1\n";
+
+const VOTES: &[u8] = b"6 5 5 0\n7 6 6 0\n9 8 8 0\n";
+
+// What is read or written.
+#[derive(Clone, Copy)]
+enum Object {
+    Desc,
+    Input,
+    Out,
+}
+
+// The run whose calls of these numbers of an object fail.
+fn failing<'a>(row: &Row<'a>, object: Object, fails: &'a [u64]) -> Row<'a> {
+    let ends = match object {
+        Object::Desc => Ends {
+            desc_fails: fails,
+            ..row.ends
+        },
+        Object::Input => Ends {
+            input_fails: fails,
+            ..row.ends
+        },
+        Object::Out => Ends {
+            out_fails: fails,
+            ..row.ends
+        },
+    };
+    Row { ends, ..*row }
+}
+
+// The same, which stops there with nothing on out.
+fn stopping<'a>(row: &Row<'a>, object: Object, fails: &'a [u64]) -> Row<'a> {
+    let (status, report): (Status, &[u8]) = match object {
+        Object::Desc => (Status::DescFault, b"descriptor not read\n"),
+        Object::Input => (Status::InputFault, b"input not read\n"),
+        Object::Out => (Status::OutFault, b"output not written\n"),
+    };
+    Row {
+        status,
+        report,
+        out: &[],
+        ..failing(row, object, fails)
+    }
+}
+
+// Whether each of so many calls of an object stops the run with nothing on out, and a call after them does not.
+fn each_stops<X: Threads + Sync>(
+    rt: &X,
+    alloc: Global,
+    row: &Row,
+    object: Object,
+    calls: u64,
+) -> Result<bool, AllocError> {
+    for call in 0..calls {
+        let fails = [call];
+        if !is_met(rt, alloc, &stopping(row, object, &fails))? {
+            return Ok(false);
+        }
+    }
+    let fails = [calls];
+    is_met(rt, alloc, &failing(row, object, &fails))
+}
+
+#[test]
+fn commands_that_write_one_text(rt: HostRuntime) -> Result<(), Fail> {
+    let alloc = rt.alloc();
+    let table = TABLE.as_bytes();
+    // a word of eight bytes is read by threes, and then the end; a table and the end by two reads
+    let rows = [
+        (done("member D", HERMITIAN_4, &EMPTY, b"codeword\n"), 4),
+        (done("votes D", HERMITIAN_4, &EMPTY, VOTES), 4),
+        (done("points D", HERMITIAN_4, &[], POINTS), 0),
+        (done("params D", HERMITIAN_4, &[], PARAMS), 0),
+        (done("bound D", HERMITIAN_4, &[], table), 0),
+    ];
+    for (row, reads) in rows {
+        assert!(rt; each_stops(&rt, alloc, &row, Object::Desc, 2)?);
+        assert!(rt; each_stops(&rt, alloc, &row, Object::Input, reads)?);
+        assert!(rt; each_stops(&rt, alloc, &row, Object::Out, 1)?);
+    }
+    let whole = Ends {
+        input_piece: 4096,
+        ..WORKING
+    };
+    let check = Row {
+        ends: whole,
+        ..done("check D", HERMITIAN_4, table, b"accepted bound 5\n")
+    };
+    assert!(rt; each_stops(&rt, alloc, &check, Object::Input, 2)?);
+    assert!(rt; each_stops(&rt, alloc, &check, Object::Out, 1)?);
+    Ok(())
+}
+
+// encode of a file, byte by byte, whose input or out fails at a call, after this much of its image.
+fn encoding<'a>(file: &'a [u8], ends: Ends<'a>, status: Status, out: &'a [u8]) -> Row<'a> {
+    let report = match status {
+        Status::InputFault => "input not read\n",
+        Status::OutFault => "output not written\n",
+        _ => "",
+    };
+    Row {
+        ends,
+        out,
+        ..stopped("encode D", HERMITIAN_4, file, status, report)
+    }
+}
+
+#[test]
+fn encode_stops_after_the_groups_it_has(rt: HostRuntime) -> Result<(), Fail> {
+    let reads = |fails| Ends {
+        input_piece: 1,
+        input_fails: fails,
+        ..WORKING
+    };
+    let writes = |fails| Ends {
+        out_fails: fails,
+        ..WORKING
+    };
+    let mut zeros = [0u8; 40];
+    zeros[32..].copy_from_slice(&EMPTY);
+    let (unread, unwritten, done) = (Status::InputFault, Status::OutFault, Status::Done);
+    let rows = [
+        encoding(&[], reads(&[0]), unread, &[]),
+        encoding(&[], reads(&[1]), done, &EMPTY),
+        encoding(&[], writes(&[0]), unwritten, &[]),
+        encoding(&[], writes(&[1]), done, &EMPTY),
+        encoding(&[0x41], reads(&[0]), unread, &[]),
+        encoding(&[0x41], reads(&[1]), unread, &BYTE_41[..8]),
+        encoding(&[0x41], reads(&[2]), done, &BYTE_41),
+        encoding(&[0x41], writes(&[0]), unwritten, &[]),
+        encoding(&[0x41], writes(&[1]), unwritten, &BYTE_41[..8]),
+        encoding(&[0x41], writes(&[2]), done, &BYTE_41),
+        // of 8, 16 and 24 bits whole groups are 6, 12 and 24
+        encoding(&[0; 3], reads(&[0]), unread, &[]),
+        encoding(&[0; 3], reads(&[1]), unread, &zeros[..8]),
+        encoding(&[0; 3], reads(&[2]), unread, &zeros[..16]),
+        encoding(&[0; 3], reads(&[3]), unread, &zeros[..32]),
+        encoding(&[0; 3], reads(&[4]), done, &zeros),
+        encoding(&[0; 3], writes(&[4]), unwritten, &zeros[..32]),
+        encoding(&[0; 3], writes(&[5]), done, &zeros),
+    ];
+    let missed = missed(&rt, rt.alloc(), &rows)?;
+    assert!(rt; missed.is_none(), "{missed:?}");
+    Ok(())
+}
+
+// The rows are met with 1 and with 8 workers.
+fn assert_decodes<X: Threads + Sync>(rt: &X, alloc: Global, rows: &[Row]) -> Result<(), Fail> {
+    for line in ["decode D", "decode --workers 8 D"] {
+        for row in rows {
+            let row = Row { line, ..*row };
+            if !is_met(rt, alloc, &row)? {
+                return Err(Fail::new(line));
+            }
+        }
+    }
+    Ok(())
+}
+
+// decode of a text, group by group, whose input or report fails at a call, after this much of the file.
+fn decoding<'a>(text: &'a [u8], ends: Ends<'a>, status: Status, out: &'a [u8]) -> Row<'a> {
+    let report = match status {
+        Status::InputFault => "input not read\n",
+        Status::OutFault => "output not written\n",
+        _ => "",
+    };
+    Row {
+        ends,
+        out,
+        ..stopped("decode D", HERMITIAN_4, text, status, report)
+    }
+}
+
+#[test]
+fn decode_stops_after_the_bytes_it_is_sure_of(rt: HostRuntime) -> Result<(), Fail> {
+    let reads = |fails| Ends {
+        input_piece: 8,
+        input_fails: fails,
+        ..WORKING
+    };
+    let tells = |fails| Ends {
+        report_fails: fails,
+        ..WORKING
+    };
+    let writes = |fails| Ends {
+        out_fails: fails,
+        ..WORKING
+    };
+    let mut zeros = [0u8; 40];
+    zeros[32..].copy_from_slice(&EMPTY);
+    let (unread, untold, unwritten) = (Status::InputFault, Status::ReportFault, Status::OutFault);
+    // one group is held back, and each carries six bits
+    let rows = [
+        decoding(&EMPTY, reads(&[0]), unread, &[]),
+        decoding(&EMPTY, reads(&[1]), unread, &[]),
+        decoding(&EMPTY, tells(&[0]), untold, &[]),
+        decoding(&BYTE_41, reads(&[0]), unread, &[]),
+        decoding(&BYTE_41, reads(&[1]), unread, &[]),
+        decoding(&BYTE_41, reads(&[2]), unread, &[]),
+        decoding(&BYTE_41, writes(&[0]), unwritten, &[]),
+        decoding(&BYTE_41, tells(&[0]), untold, &[0x41]),
+        decoding(&zeros, reads(&[0]), unread, &[]),
+        decoding(&zeros, reads(&[1]), unread, &[]),
+        decoding(&zeros, reads(&[2]), unread, &[]),
+        decoding(&zeros, reads(&[3]), unread, &[0]),
+        decoding(&zeros, reads(&[4]), unread, &[0; 2]),
+        decoding(&zeros, reads(&[5]), unread, &[0; 3]),
+        decoding(&zeros, tells(&[0]), untold, &[0; 3]),
+    ];
+    assert_decodes(&rt, rt.alloc(), &rows)
+}
