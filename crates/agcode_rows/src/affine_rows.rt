@@ -1,5 +1,7 @@
 //! Codes on affine spaces: Reed-Solomon codes on a line, and a hyperbolic code on a plane.
 
+ghost use Rattle.std.specs.Prelude.{◌≤◌};
+
 use crate::descriptors::{LINE_4, PLANE_4, with, with_all_points};
 use crate::rig::{Row, done, is_met, missed, plain, stopped};
 use agcode_top::Status;
