@@ -23,8 +23,8 @@ fn other_words_are_usage(rt: HostRuntime) -> Result<(), Fail> {
         "decode -- D",
         "erase",
         "erase --workers 2 D",
-        // words of commands and options that are not built
-        "decode --salvage D",
+        "encode --salvage D",
+        "decode --salvage --salvage D",
     ];
     let usage = "usage: agcode COMMAND [OPTIONS] DESC\n";
     for line in lines {

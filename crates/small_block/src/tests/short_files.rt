@@ -59,44 +59,53 @@ fn file_of<X: Threads + Sync, C: BlockCode + Sync>(
     })
 }
 
-// A file whose image is not decoded to it, where there is one: of all those that begin so and have one byte more or none.
-fn lost_of<X: Threads + Sync, C: BlockCode + Sync>(
+// Whether a file comes back, in rooms of its own.
+fn comes_back<X: Threads + Sync, C: BlockCode + Sync>(
+    rt: &X,
+    alloc: Global,
+    code: &C,
+    layout: &Layout,
+    file: &[u8],
+) -> Result<bool, Fail>
+    requires { Fits layout.now (C.form code.now) }
+{
+    let workers = Workers::new(1).ok_or("one is a number of workers")?;
+    let mut encoding = EncodeRoom::new(alloc, code, layout)?;
+    let Some(text) = image_of(alloc, code, &mut encoding, file)? else {
+        return Ok(false);
+    };
+    let mut decoding = DecodeRoom::new(alloc, code, layout, workers)?;
+    let back = file_of(rt, alloc, code, &mut decoding, &text)?;
+    Ok(back.as_deref() == Some(file))
+}
+
+// Whether all files come back that begin so and have one byte more, or none.
+fn all_come_back<X: Threads + Sync, C: BlockCode + Sync>(
     rt: &X,
     alloc: Global,
     code: &C,
     layout: &Layout,
     begin: &[u8],
-) -> Result<Option<Vec<u8>>, Fail>
+) -> Result<bool, Fail>
     requires { Fits layout.now (C.form code.now) }
 {
-    let workers = Workers::new(1).ok_or("one is a number of workers")?;
-    let mut encoding = EncodeRoom::new(alloc, code, layout)?;
-    let mut decoding = DecodeRoom::new(alloc, code, layout, workers)?;
-    for last in 0..=256u16 {
+    let mut all = comes_back(rt, alloc, code, layout, begin)?;
+    for last in 0..=255u8 {
         let mut file = begin.to_vec(alloc)?;
-        if last < 256 {
-            file.push(last as u8)?;
-        }
-        let Some(text) = image_of(alloc, code, &mut encoding, &file)? else {
-            return Ok(Some(file));
-        };
-        let back = file_of(rt, alloc, code, &mut decoding, &text)?;
-        if back.as_deref() != Some(file.as_slice()) {
-            return Ok(Some(file));
-        }
+        file.push(last)?;
+        all &= comes_back(rt, alloc, code, layout, &file)?;
     }
-    Ok(None)
+    Ok(all)
 }
 
 #[test]
 fn every_short_file_comes_back(rt: HostRuntime) -> Result<(), Fail> {
     for packed in [false, true] {
         let layout = layout_of(&SmallCode, 1, packed);
-        let lost = lost_of(&rt, rt.alloc(), &SmallCode, &layout, &[])?;
-        assert!(rt; lost.is_none(), "{lost:?}");
+        assert!(rt; all_come_back(&rt, rt.alloc(), &SmallCode, &layout, &[])?);
         for first in 0..=255u8 {
-            let lost = lost_of(&rt, rt.alloc(), &SmallCode, &layout, &[first])?;
-            assert!(rt; lost.is_none(), "{lost:?}");
+            let all = all_come_back(&rt, rt.alloc(), &SmallCode, &layout, &[first])?;
+            assert!(rt; all, "{first} {packed}");
         }
     }
     Ok(())
