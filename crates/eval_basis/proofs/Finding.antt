@@ -157,7 +157,7 @@ module _ (d : Domain) (modulus : ℕ) (points : List Point) (lawful : IsOrderDom
   }
 
   -- sums with a function that is a combination of those before it are such combinations
-  marks_kept : (i : ℕ) (old now : List Bool) → i < d.count → IsOld i → AreMarked d i old now → ((j : ℕ) → j < d.count → marked old j ≡ true → IsOld j) → (j : ℕ) → j < d.count → marked now j ≡ true → IsOld j
+  pub marks_kept : (i : ℕ) (old now : List Bool) → i < d.count → IsOld i → AreMarked d i old now → ((j : ℕ) → j < d.count → marked old j ≡ true → IsOld j) → (j : ℕ) → j < d.count → marked now j ≡ true → IsOld j
   marks_kept i old now li is m before j lj mark = elim (m.marks j mark) [
     | inl e ↦ before j lj e
     | inr w ↦

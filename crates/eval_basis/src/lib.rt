@@ -1,5 +1,6 @@
 //! The basis of a code: vectors with their dual lists, what the order of the members says of their products, and which
-//! members are checked. Start at `EvalBasis`, whose type keeps that it is sound, and at `Checked`.
+//! members are checked. Start at `EvalBasis`, whose type keeps that it is sound, and at `Checked`. Who checks what another
+//! says of the members has `evaluate`, `mark_sums` and `tables_of`.
 #![tactic(auto)]
 
 ghost use Rattle.eval_basis.specs.ByLabels.{AtMostLaw};
@@ -15,6 +16,8 @@ mod tables;
 
 pub use basis::EvalBasis;
 pub use checked::{CheckRule, Checked};
+pub use members::{evaluate, mark_sums};
+pub use tables::{Tables, tables_of};
 
 /// The code of any rule on a built basis is the set of the lists that are orthogonal to the values of the members that the
 /// rule checks. The contract is the theorem.

@@ -24,7 +24,13 @@ pub struct Members {
 const COORDINATES: u32 = 3;
 
 /// Writes the values of function i at the points.
-fn evaluate<F: Field, D: OrderDomain>(f: &F, dom: &D, i: u32, points: &[Point], values: &mut [u8])
+pub fn evaluate<F: Field, D: OrderDomain>(
+    f: &F,
+    dom: &D,
+    i: u32,
+    points: &[Point],
+    values: &mut [u8],
+)
     requires bits { F.bits_of f.now ≡ (D.domain dom.now).bits }
     requires index { i < (D.domain dom.now).count }
     requires points { ArePoints (D.domain dom.now) (F.modulus_of f.now) points.now }
@@ -40,7 +46,7 @@ fn evaluate<F: Field, D: OrderDomain>(f: &F, dom: &D, i: u32, points: &[Point], 
 
 /// Marks the sums of function i with the functions of the coordinates. Where function i is a combination of those before
 /// it, so are these sums.
-fn mark_sums<D: OrderDomain>(dom: &D, i: u32, old: &mut [bool])
+pub fn mark_sums<D: OrderDomain>(dom: &D, i: u32, old: &mut [bool])
     requires index { i < (D.domain dom.now).count }
     requires marks { length old.old ≡ (D.domain dom.now).count }
     ensures { AreMarked (D.domain dom.now) i old.old old.new }
