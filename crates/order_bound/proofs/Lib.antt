@@ -9,3 +9,4 @@ pub mod Conversions
 pub mod Verdicts
 pub mod Tables
 pub mod Once
+pub mod OneLine

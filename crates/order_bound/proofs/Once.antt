@@ -50,7 +50,7 @@ module _ (size n : ℕ) (small : size ≤ 256) where
     pub entries : e ≡ f
     pub rests : A ≡ B
 
-  lines_same : (e f : Entry) (A B : List ℕ) → IsForm size n e → IsForm size n f → entry_line e ++ A ≡ entry_line f ++ B → IsSameLine e f A B
+  pub lines_same : (e f : Entry) (A B : List ℕ) → IsForm size n e → IsForm size n f → entry_line e ++ A ≡ entry_line f ++ B → IsSameLine e f A B
   lines_same e f A B he hf q =
       let s : AreSame (entry_body e.label e.pairs e.mark e.dual) (entry_body f.label f.pairs f.mark f.dual) (10 ∷ A) (10 ∷ B) =
       line_is _ _ A B (body_feedless size n small e he) (body_feedless size n small f hf)
@@ -78,7 +78,7 @@ pub record IsSameHead (c b c' b' : ℕ) (A B : List ℕ) : Type 0 where
   pub bounds : b ≡ b'
   pub rests : A ≡ B
 
-heads_same : (n c b c' b' : ℕ) (A B : List ℕ) → n < 10 ^ 19 → IsHead c b → IsHead c' b' → head_line n c b ++ A ≡ head_line n c' b' ++ B → IsSameHead c b c' b' A B
+pub heads_same : (n c b c' b' : ℕ) (A B : List ℕ) → n < 10 ^ 19 → IsHead c b → IsHead c' b' → head_line n c b ++ A ≡ head_line n c' b' ++ B → IsSameHead c b c' b' A B
 unfolding head_body
 heads_same n c b c' b' A B few h h' q =
     let s : AreSame (head_body n c b) (head_body n c' b') (10 ∷ A) (10 ∷ B) =
@@ -110,7 +110,7 @@ module _ (size n : ℕ) (small : size ≤ 256) (few : n < 10 ^ 19) (text : List 
       let h : IsSameHead c' b' c b (flat_map entry_line es ++ rest) (flat_map entry_line fs) = heads_same n c' b' c b _ _ few other.head lines.head (same_rest title _ _ q) in
       record { checked_are = h.checked_are; bounds = h.bounds; first = first_lines size n small es fs rest other.forms lines.forms (omega arith) h.rests }
 
-  same_text : (c' b' : ℕ) (es : List Entry) → AreLines size n text c' b' es [] → length es ≡ n → es ≡ fs
+  pub same_text : (c' b' : ℕ) (es : List Entry) → AreLines size n text c' b' es [] → length es ≡ n → es ≡ fs
   same_text c' b' es other l =
       let o : IsOnce c' b' es [] = once c' b' es [] other (omega arith) in
       let m : length fs ≡ length es + length o.first.more = ap length o.first.are ∙ length-append es o.first.more in
@@ -120,7 +120,7 @@ module _ (size n : ℕ) (small : size ≤ 256) (few : n < 10 ^ 19) (text : List 
       none [] e = refl
       none (x ∷ xs) e = absurd (omega arith)
 
-  well_formed : (line : ℕ) → IsBadForm size n text line → ⊥
+  pub well_formed : (line : ℕ) → IsBadForm size n text line → ⊥
   well_formed line (no_title none) = none (head_line n c b ++ flat_map entry_line fs) tail
   well_formed line (no_head rest is none) = none c b (flat_map entry_line fs) lines.head (same_rest title _ _ (sym is ∙ tail))
   well_formed line (no_entry c' b' es rest other l none) =

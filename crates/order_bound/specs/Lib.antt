@@ -4,3 +4,4 @@ pub mod TableForm
 pub mod Reading
 pub mod Checking
 pub mod TableChecks
+pub mod Refusals

@@ -9,9 +9,11 @@ mod distance;
 mod functions;
 mod pairs;
 mod reader;
+mod refusal;
 mod table;
 mod writer;
 
 pub use distance::bound;
+pub use refusal::tables_are_refused_at_one_line;
 pub use table::{TableSays, check_table};
 pub use writer::table_text;
