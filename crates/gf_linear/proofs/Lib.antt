@@ -1,5 +1,6 @@
 mod BitPasses
 pub mod Cleared
+pub mod Combinations
 pub mod Forms
 pub mod Found
 pub mod Joins
@@ -9,4 +10,5 @@ pub mod Sides
 pub mod Sixteens
 pub mod Steps
 pub mod Views
+pub mod Wides
 pub mod Writes

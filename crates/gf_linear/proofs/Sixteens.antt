@@ -1,11 +1,11 @@
 -- Bytes whose low and high four bits are looked up in two tables of 16, over plain numbers and lists.
-use Rattle.std.proofs.Common.{◌≡◌, ℕ, ◌+◌, ◌*◌, ◌-◌, ◌/◌, ◌%◌, ◌^◌, ◌<◌, ◌≤◌, List, ◌++◌, length, get_or, replicate, sym, ap, ◌∙◌, subst, inl, inr, refl, arith, bit_xor, bit_and, w8}
+use Rattle.std.proofs.Common.{◌≡◌, ℕ, ◌+◌, ◌*◌, ◌-◌, ◌/◌, ◌%◌, ◌^◌, ◌<◌, List, ◌++◌, length, get_or, replicate, sym, ap, ◌∙◌, inl, inr, refl, arith, bit_xor, bit_and, w8}
 use Rattle.std.specs.Int.Bits.{xor_shifted}
 use Rattle.std.proofs.lemmas.Bool.{cases_lt}
 use Rattle.std.proofs.lemmas.Nat.{xor_comm, and_mask, and_le_r, div-add-mod'}
 use Rattle.std.proofs.lemmas.List.{get_or_append_left, get_or-append-add}
-use Rattle.std.proofs.lemmas.Simd.{SwzOk, swz_l, SwzOk-from_below, Each1-get_or, Each1-zip2, Each2-splat, Each1-all, Each1-weaker, length-zip2, length-swz_l, get_or-swz_l_below, get_or-zip2, get_or-replicate, length-chunk, get_or-chunk, get_or-put_chunk_at, get_or-put_chunk_above}
-use lib.Lanes.{zip2, Each1, chunk, put_chunk}
+use Rattle.std.proofs.lemmas.Simd.{SwzOk, swz_l, SwzOk-from_below, Each1-get_or, Each1-zip2, Each2-splat, Each1-all, Each1-weaker, length-zip2, length-swz_l, get_or-swz_l_below, get_or-zip2, get_or-replicate}
+use lib.Lanes.{zip2, Each1}
 use Rattle.gf_theory.specs.Field.{gf_mul}
 use Rattle.gf_theory.proofs.Product.{gf_mul-xor_right}
 use Rattle.gf_linear.specs.Nibbles.{looked_up}
@@ -81,34 +81,3 @@ look_up-is low high v long bytes i l =
     (get_or-swz_l_below w8 16 low 0 (low_parts v) i (omega arith) (omega arith) ∙ ap (λ (k : ℕ). get_or low k 0) (omega arith))
     ∙ ap (bit_xor (get_or low (a % 16) 0))
     (get_or-swz_l_below w8 16 high 0 (high_parts v) i (omega arith) (omega arith) ∙ ap (λ (k : ℕ). get_or high k 0) (omega arith))
-
--- sixteen sums are written at a place
-module _ (at : ℕ) (xs ys : List ℕ) (room : at + 16 ≤ length xs) (long : length ys ≡ 16) where
-  sums-long : length (zip2 bit_xor (chunk at 16 xs) ys) ≡ 16
-  sums-long = length-zip2 bit_xor (chunk at 16 xs) ys (length-chunk at 16 xs room ∙ sym long) ∙ length-chunk at 16 xs room
-
-  pub sixteen_here : (i : ℕ) → i < 16 → get_or (put_chunk at xs (zip2 bit_xor (chunk at 16 xs) ys)) (at + i) 0 ≡ bit_xor (get_or xs (at + i) 0) (get_or ys i 0)
-  sixteen_here i l =
-      get_or-put_chunk_at at xs (zip2 bit_xor (chunk at 16 xs) ys) i 0 (omega (arith, sums-long)) (omega (arith, sums-long))
-      ∙ get_or-zip2 bit_xor (chunk at 16 xs) ys i 0 0 0 (omega (arith, length-chunk at 16 xs room)) (omega arith)
-      ∙ ap (λ (x : ℕ). bit_xor x (get_or ys i 0)) (get_or-chunk at 16 xs i 0 l)
-
-  pub sixteen_after : (p : ℕ) → at + 16 ≤ p → get_or (put_chunk at xs (zip2 bit_xor (chunk at 16 xs) ys)) p 0 ≡ get_or xs p 0
-  sixteen_after p l = get_or-put_chunk_above at xs (zip2 bit_xor (chunk at 16 xs) ys) p 0 (omega (arith, sums-long))
-
--- one sixteen after the other: xs is the list before sixteen q is done, and ys the list after it
-module _ (q : ℕ) (first xs ys : List ℕ) (added : ℕ → ℕ)
-    (rest : (p : ℕ) → q * 16 ≤ p → get_or xs p 0 ≡ get_or first p 0) where
-  pub sixteens_more :
-      ((p : ℕ) → p < q * 16 → get_or xs p 0 ≡ bit_xor (get_or first p 0) (added p)) → ((i : ℕ) → i < 16 → get_or ys (q * 16 + i) 0 ≡ bit_xor (get_or xs (q * 16 + i) 0) (added (q * 16 + i)))
-      → ((p : ℕ) → p < q * 16 → get_or ys p 0 ≡ get_or xs p 0) → (p : ℕ) → p < (q + 1) * 16 → get_or ys p 0 ≡ bit_xor (get_or first p 0) (added p)
-  sixteens_more done here before p l = elim (cases_lt p (q * 16)) [
-    | inl u ↦ before p u ∙ done p u
-    | inr u ↦
-        let e : q * 16 + (p - q * 16) ≡ p = omega arith in
-        subst (λ (r : ℕ). get_or ys r 0 ≡ bit_xor (get_or first r 0) (added r)) e
-        (here (p - q * 16) (omega arith) ∙ ap (λ (x : ℕ). bit_xor x (added (q * 16 + (p - q * 16)))) (rest (q * 16 + (p - q * 16)) (omega arith)))
-  ]
-
-  pub sixteens_rest : ((p : ℕ) → q * 16 + 16 ≤ p → get_or ys p 0 ≡ get_or xs p 0) → (p : ℕ) → (q + 1) * 16 ≤ p → get_or ys p 0 ≡ get_or first p 0
-  sixteens_rest after p l = after p (omega arith) ∙ rest p (omega arith)

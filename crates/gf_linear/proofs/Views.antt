@@ -6,6 +6,8 @@ use Rattle.std.proofs.lemmas.List.{get_or_past}
 use Rattle.std.proofs.lemmas.Nat.{pow_pos}
 use borrow.Rule.Slice.PartMut.{put_mid}
 use Rattle.linear_theory.proofs.Tables.{length-rows_of, row-rows_of, entry-rows_of, length-row, rows_of-set, rows_of-replicate, rows_of-put_mid, place_below, row_end}
+use Rattle.field_theory.proofs.Sums.{sum-same}
+use Rattle.linear_theory.specs.Linear.{combine}
 use Rattle.linear_theory.proofs.Entries.{AreSame}
 use Rattle.gf_linear.specs.Cells.{cell}
 use Rattle.gf_linear.proofs.Steps.{All-cells}
@@ -59,6 +61,19 @@ module _ (rows cols : ℕ) (m : List ℕ) (v : Matrix) (view : matrix_of rows co
 
   pub view-same : AreSame cols rows (cell m cols) (entry v)
   view-same i li j lj = view-entry i j li lj
+
+  -- the list, and the numbers of rows and of columns, as they are at hand
+  module _ (xs : List ℕ) (r n : ℕ) (es : xs ≡ m) (er : r ≡ length v.rows) (en : n ≡ v.cols) where
+    pub view-size : length m ≡ rows * cols → length xs ≡ r * n
+    view-size h = ap length es ∙ h ∙ ap (λ (k : ℕ). k * cols) (view-rows ∙ sym er) ∙ ap (λ (k : ℕ). r * k) (view-cols ∙ sym en)
+
+    pub view-combine : (mul : ℕ → ℕ → ℕ) (c : ℕ → ℕ) (q : ℕ) → q < n → combine mul r c (cell xs n) q ≡ combine mul (length v.rows) c (entry v) q
+    view-combine mul c q l =
+        let same_cols : n ≡ cols = en ∙ sym view-cols in
+        let same_rows : r ≡ rows = er ∙ sym view-rows in
+        sum-same r (λ i. mul (c i) (cell xs n i q)) (λ i. mul (c i) (entry v i q))
+        (λ i li. ap (mul (c i)) (ap (λ (w : List ℕ). cell w n i q) es ∙ ap (λ (k : ℕ). cell m k i q) same_cols ∙ view-entry i q (omega arith) (omega arith)))
+        ∙ ap (λ (k : ℕ). combine mul k c (entry v) q) er
 
   pub view-symbols : (b : ℕ) → IsOver b v → length m ≡ rows * cols → All (λ a. a < 2 ^ b) m
   view-symbols b h e = All-cells (λ a. a < 2 ^ b) rows cols m e (λ i j li lj. subst (λ (x : ℕ). x < 2 ^ b) (sym (view-entry i j li lj)) (h.below i j))

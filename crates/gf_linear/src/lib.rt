@@ -5,8 +5,10 @@
 #![tactic(auto)]
 
 mod columns;
+mod combining;
 mod duals;
 mod elimination;
+mod lanes;
 mod lists;
 mod matrix;
 mod parts;
@@ -16,6 +18,7 @@ mod solutions;
 #[cfg(test)]
 mod tests;
 
+pub use combining::combine_rows;
 pub use duals::dual_of;
 pub use lists::{add_scaled, dot};
 pub use matrix::Matrix;

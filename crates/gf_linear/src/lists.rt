@@ -1,14 +1,15 @@
 //! Products and multiples of lists, since a product is linear in each bit of a factor. A product of two lists is made by a
 //! pass over them for each bit of a symbol: the pass has no product in it, only a choice, and runs many symbols at a time.
 //! For a multiple the field has the products of the factor in two tables of 16, by the low four bits of a symbol and by the
-//! others, and 16 symbols are looked up at once.
+//! others, and 32 symbols are looked up at once.
 
-ghost use Rattle.std.specs.Prelude.{◌≡◌, ℕ, ◌+◌, ◌*◌, ◌/◌, ◌%◌, ◌<◌, ◌≤◌, ◌^◌, length, slice_index, bit_xor, All};
+ghost use Rattle.std.specs.Prelude.{◌≡◌, ℕ, ◌+◌, ◌*◌, ◌/◌, ◌%◌, ◌<◌, ◌≤◌, ◌^◌, List, length, slice_index, bit_xor, All};
 ghost use Rattle.field_theory.specs.Sums.{xor_sum};
 ghost use Rattle.linear_theory.specs.Linear.{dot as dot_of};
 ghost use Rattle.gf_theory.specs.Field.{gf_mul};
-ghost use Rattle.gf_linear.specs.Nibbles.{looked_up};
+ghost use Rattle.gf_linear.specs.Nibbles.{looked_up, IsTwice};
 
+use crate::lanes::{add_looked_up, twice};
 use gf_field::{Field, Multiples};
 use std::simd::prelude::*;
 
@@ -71,6 +72,55 @@ fn sum_where(x: &[u8], bit: u32, y: &[u8]) -> u8
 
 // Adds to each byte of `dst` what the tables give for that of `src`.
 fn add_multiples(dst: &mut [u8], low: &[u8; 16], high: &[u8; 16], src: &[u8])
+    requires same { length dst.old ≡ length src.now }
+    requires low { length low.now ≡ 16 }
+    requires high { length high.now ≡ 16 }
+    ensures length { length dst.new ≡ length dst.old }
+    ensures value { (p : ℕ) → p < length dst.old →
+        slice_index dst.new p ≡ bit_xor (slice_index dst.old p)
+        (looked_up low.now high.now (slice_index src.now p)) }
+{
+    let whole = dst.len() / 32 * 32;
+    let (front, rest) = dst.split_at_mut(whole);
+    let (front_src, rest_src) = src.split_at(whole);
+    add_wides(front, low, high, front_src);
+    add_rest(rest, low, high, rest_src);
+}
+
+// The same, 32 bytes at a time.
+fn add_wides(dst: &mut [u8], low: &[u8; 16], high: &[u8; 16], src: &[u8])
+    requires same { length dst.old ≡ length src.now }
+    requires whole { length dst.old % 32 ≡ 0 }
+    requires low { length low.now ≡ 16 }
+    requires high { length high.now ≡ 16 }
+    ensures length { length dst.new ≡ length dst.old }
+    ensures value { (p : ℕ) → p < length dst.old →
+        slice_index dst.new p ≡ bit_xor (slice_index dst.old p)
+        (looked_up low.now high.now (slice_index src.now p)) }
+{
+    let (lows, highs) = (twice(low), twice(high));
+    for q in 0..dst.len() / 32 {
+        add_wide(dst, q * 32, lows, highs, src);
+    }
+}
+
+// The same at the 32 places from `at` on.
+fn add_wide(dst: &mut [u8], at: usize, low: u8x32, high: u8x32, src: &[u8])
+    requires same { length dst.old ≡ length src.now }
+    requires room { at + 32 ≤ length dst.old }
+    ensures length { length dst.new ≡ length dst.old }
+    ensures here { (lows highs : List ℕ) → IsTwice lows low → IsTwice highs high →
+        (i : ℕ) → i < 32 → slice_index dst.new (at + i) ≡ bit_xor (slice_index dst.old (at + i))
+        (looked_up lows highs (slice_index src.now (at + i))) }
+    ensures before { (p : ℕ) → p < at → slice_index dst.new p ≡ slice_index dst.old p }
+    ensures after { (p : ℕ) → at + 32 ≤ p → slice_index dst.new p ≡ slice_index dst.old p }
+{
+    let sums = add_looked_up(u8x32::from_slice(&dst[at..]), low, high, src, at);
+    sums.copy_to_slice(&mut dst[at..]);
+}
+
+// The same where fewer than 32 are left.
+fn add_rest(dst: &mut [u8], low: &[u8; 16], high: &[u8; 16], src: &[u8])
     requires same { length dst.old ≡ length src.now }
     requires low { length low.now ≡ 16 }
     requires high { length high.now ≡ 16 }

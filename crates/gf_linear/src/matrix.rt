@@ -1,8 +1,10 @@
-ghost use Rattle.std.specs.Prelude.{◌≡◌, ◌≢◌, ℕ, ◌*◌, ◌<◌, ◌≤◌, ◌^◌, length, bit_xor, IfOk};
+ghost use Rattle.std.specs.Prelude.{◌≡◌, ◌≢◌, ℕ, ◌*◌, ◌<◌, ◌≤◌, ◌^◌, length, slice_index, bit_xor, All, IfOk};
+ghost use Rattle.linear_theory.specs.Linear.{combine};
 ghost use Rattle.gf_theory.specs.Field.{gf_mul};
 ghost use Rattle.gf_linear.specs.Matrix.{entry, row as row_of, IsMatrix, IsOver, zero_matrix, with_row, with_entry};
 
 use crate::columns::clear_in_threads;
+use crate::combining::combine_rows;
 use ag_pool::Workers;
 use gf_field::Field;
 use std::alloc::{AllocError, Global};
@@ -86,6 +88,20 @@ impl Matrix {
     {
         let start = i as usize * self.cols as usize;
         self.entries[start..start + self.cols as usize].copy_from_slice(entries);
+    }
+
+    /// Makes `sum` the sum of the rows, each times its factor.
+    pub fn combine<F: Field>(&self, f: &F, factors: &[u8], sum: &mut [u8])
+        requires count { length factors.now ≡ length self.now.rows }
+        requires factors { All (λ a. a < 2 ^ F.bits_of f.now) factors.now }
+        requires over { IsOver (F.bits_of f.now) self.now }
+        requires width { length sum.old ≡ self.now.cols }
+        ensures value { (q : ℕ) → q < length sum.old →
+            slice_index sum.new q ≡ combine (gf_mul (F.bits_of f.now) (F.modulus_of f.now))
+            (length self.now.rows) (slice_index factors.now) (entry self.now) q }
+        ensures symbols { All (λ a. a < 2 ^ F.bits_of f.now) sum.new }
+    {
+        combine_rows(f, factors, &self.entries, sum);
     }
 
     /// Each row other than row `pivot` becomes itself plus its entry at `col` times row `pivot`, so that it is 0 at `col`;

@@ -1,7 +1,9 @@
 ghost use Rattle.std.specs.Prelude.{◌≡◌, ◌*◌, ◌<◌, ◌≤◌, length, All, IsTrue, IfOk};
 ghost use Rattle.gf_linear.specs.Matrix.{IsOver};
 
-use super::{Matrix, add_scaled, dot, dual_of, echelon, part_rank, part_residue, rank, solve};
+use super::{
+    Matrix, add_scaled, combine_rows, dot, dual_of, echelon, part_rank, part_residue, rank, solve,
+};
 use ag_pool::Workers;
 use gf_field::PolyField;
 use std::alloc::{AllocError, Global};
@@ -94,6 +96,33 @@ fn multiples_of_long_lists(rt: HostRuntime) -> Result<(), Fail> {
     expected[16] = 0x47 ^ 0x8e;
     expected[34] = 0x47 ^ 0x07;
     assert_eq!(rt; sum, expected);
+    Ok(())
+}
+
+// A row plus 2 times another, of n symbols each: 47 and 57, but ae and 8e at the end.
+fn combined(rt: &impl Abort, alloc: Global, f: &PolyField, n: usize) -> Result<Vec<u8>, AllocError>
+    requires bits { f.now.bits ≡ 8 }
+    requires some { 1 ≤ n }
+    requires few { n ≤ 1000 }
+{
+    let mut rows = vec![in alloc; 0x47u8; 2 * n]?;
+    rows[n..].fill(0x57);
+    rows[n - 1] = 0xae;
+    rows[2 * n - 1] = 0x8e;
+    let mut sum = vec![in alloc; 9u8; n]?;
+    assert!(rt; are_bytes(&rows));
+    combine_rows(f, &[1, 2], &rows, &mut sum);
+    Ok(sum)
+}
+
+#[test]
+fn combinations_of_rows(rt: HostRuntime) -> Result<(), Fail> {
+    let f = field_of_aes(&rt);
+    for n in [1, 33, 150] {
+        let mut expected = vec![in rt.alloc(); 0x47 ^ 0xae_u8; n]?;
+        expected[n - 1] = 0xae ^ 0x07;
+        assert_eq!(rt; combined(&rt, rt.alloc(), &f, n)?, expected);
+    }
     Ok(())
 }
 
