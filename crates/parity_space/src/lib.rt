@@ -11,7 +11,7 @@ mod tails;
 
 ghost use Rattle.std.specs.Prelude.{◌≡◌, ℕ, ◌+◌, ◌<◌, ◌≤◌, ◌^◌, ◌↔◌, List, length, slice_index, count_by, IfOk, IsTrue, All, Contains};
 ghost use Rattle.std.specs.List.Sorted.{IsStrictlyIncreasing};
-ghost use Rattle.linear_theory.specs.Linear.{dot as dot_of, combine};
+ghost use Rattle.linear_theory.specs.Linear.{dot as dot_of};
 ghost use Rattle.gf_theory.specs.Field.{gf_mul};
 ghost use Rattle.order_theory.specs.Basis.{times};
 ghost use Rattle.order_theory.specs.Codes.{IsCodeword};
@@ -21,7 +21,7 @@ ghost use Rattle.block_theory.specs.Marked.{checks_of};
 
 use eval_basis::{Checked, EvalBasis};
 use gf_field::Field;
-use gf_linear::{Matrix, add_scaled, dot, echelon};
+use gf_linear::{Matrix, dot, echelon};
 use preparing::{checked_vectors, first_check, free_places, mirrored, pivots_of, tails_of};
 use std::alloc::{AllocError, Global};
 use std::marker::Model;
@@ -109,7 +109,7 @@ impl Parity {
         let first = self.first as usize;
         let (front, tail) = word.split_at_mut(first);
         front.copy_from_slice(&msg[..first]);
-        combine_rows(f, msg, &self.tails, tail);
+        self.tails.combine(f, msg, tail);
     }
 
     /// Whether these bytes are a codeword: all below 2^bits, and orthogonal to the vectors of the checked members.
@@ -147,21 +147,4 @@ fn are_orthogonal<F: Field>(f: &F, rows: &Matrix, word: &[u8]) -> bool
         }
     }
     true
-}
-
-// Makes `sum` the sum of the rows, each times its factor.
-fn combine_rows<F: Field>(f: &F, factors: &[u8], rows: &Matrix, sum: &mut [u8])
-    requires count { length factors.now ≡ length rows.now.rows }
-    requires symbols { All (λ a. a < 2 ^ F.bits_of f.now) factors.now }
-    requires over { IsOver (F.bits_of f.now) rows.now }
-    requires width { length sum.old ≡ rows.now.cols }
-    ensures value { (q : ℕ) → q < length sum.old →
-        slice_index sum.new q ≡ combine (gf_mul (F.bits_of f.now) (F.modulus_of f.now))
-        (length rows.now.rows) (slice_index factors.now) (entry rows.now) q }
-    ensures symbols { All (λ a. a < 2 ^ F.bits_of f.now) sum.new }
-{
-    sum.fill(0);
-    for i in 0..rows.rows() {
-        add_scaled(f, sum, factors[i as usize], rows.row(i));
-    }
 }
