@@ -13,7 +13,10 @@ from dataclasses import dataclass
 
 ROOT = pathlib.Path(__file__).resolve().parent.parent
 PROGRAM = pathlib.Path(os.environ.get("PROGRAM", ROOT / "crates/agcode_cli/out/agcode_cli")).resolve()
+WIDE_PROGRAM = ROOT / "crates/agcode_cli/out/agcode_cli_wide"
 GNU_TIME = "/usr/bin/time"
+# A machine on which so much else ran in the last minute is called busy.
+BUSY_LOAD = 1.5
 
 
 @dataclass(frozen=True)
@@ -164,9 +167,19 @@ def check_same(path, other):
         sys.exit(f"{path} and {other} differ")
 
 
-def tell(what, figure, target=""):
-    """One row of the table."""
-    print(f"| {what} | {figure} | {target} |", flush=True)
+def is_busy():
+    """Whether other work ran beside the measure in the last minute."""
+    return os.getloadavg()[0] > BUSY_LOAD
+
+
+def tell(what, figure, target="", exact=False):
+    """One row of the table. A time that was taken on a busy machine says so; a count that is exact needs not."""
+    mark = "" if exact or not is_busy() else f", busy: load {os.getloadavg()[0]:.0f}"
+    print(f"| {what} | {figure}{mark} | {target} |", flush=True)
+
+
+def has_avx2():
+    return re.search(r"(?m)^flags\b.*\bavx2\b", pathlib.Path("/proc/cpuinfo").read_text()) is not None
 
 
 def has_rust():
