@@ -11,7 +11,7 @@ use Rattle.stream_codec.specs.declared.decode.DecodeFault.TheVariants as decodin
 use Rattle.stored_form.specs.Frame.{group_bytes}
 use Rattle.stream_codec.specs.Decoding.{answer_by, answer_to, read_bytes}
 use Rattle.stream_codec.specs.Taking.{taken_past}
-use Rattle.std.proofs.lemmas.Bool.{le-leb}
+use Rattle.std.proofs.lemmas.Bool.{le-leb, cond-true}
 use Rattle.stream_codec.specs.Report.{counts_of}
 use Rattle.code_descriptor.specs.declared.DescCause.{DescCause}
 use Rattle.code_descriptor.specs.Parts.{Parts}
@@ -78,8 +78,7 @@ answer-done ws command p i o r s e (wanting h) it si so sr v = inr h.status_is
 
 pub encode-done : (p : Parts) (i : SourceCall) (o : SinkCall) (s : Status) → Encoded p i o s → IsTrue i.tells → (ReadFailed i → ⊥) → (WriteFailed o → ⊥) → length i.before.left ≤ MOST_BYTES → s ≡ Done
 encode-done p i o s h told si so l =
-    let all : _ = h.complete told si so in
-    h.status_is ∙ ap encode_status (all.0 l)
+    h.status_is ∙ ap encode_status (h.complete told si so ∙ cond-true (nat_le (length i.before.left) MOST_BYTES) _ _ (le-leb (length i.before.left) MOST_BYTES l))
 
 pub file-answer : (F : Form) (limit : ℕ) (z x : List ℕ) → reading F z ≡ File x → length z ≤ limit → answer_to F limit z ≡ Ok (counts_of F z x)
 file-answer F limit z x e l =

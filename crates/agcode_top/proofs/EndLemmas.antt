@@ -24,13 +24,17 @@ use Rattle.code_descriptor.proofs.OneMeaning.{one_meaning}
 use Rattle.descriptor_code.specs.Plain.{plain_form}
 use Rattle.code_descriptor.specs.declared.DescCause.TheVariants.{TooLarge, NotToml, BadKey, BadField, BadSpace, BadDegrees, BadTerm, MissingLead, BadPoint, BadWeight, BadImproved, BadLayout, BadDepth, NoPoints, NothingFree}
 use Rattle.agcode_top.specs.declared.status.Status.{Status}
-use Rattle.agcode_top.specs.declared.status.Status.TheVariants.{Usage, Descriptor, DescFault, InputFault, OutFault, ReportFault, NoMemory}
+use Rattle.agcode_top.specs.declared.status.Status.TheVariants.{TooLong, Usage, Descriptor, DescFault, InputFault, OutFault, ReportFault, NoMemory}
 use Rattle.agcode_top.specs.Calls.{Call, SourceCall, SinkCall, until, ReadFailed, WriteFailed}
 use Rattle.agcode_top.specs.Statuses.{IsOwn, is_streamed, tells_report, reads_input, CanSay, CanStop, CanEnd}
 use Rattle.agcode_top.specs.Commands.{has_points, Refuses, RefusesParts, Accepts}
 use Rattle.agcode_top.specs.Streams.{encode_status, decode_status, salvage_status, encode_of, decode_of}
 use Rattle.agcode_top.proofs.SalvageLemmas.{not-salvaged, like-status, fault-plain}
 use Rattle.agcode_top.specs.Leaves.{AnswerLeaves, said, out_stopped, report_stopped, input_stopped, wanting, EncodeLeaves, encoded, unencoded, DecodeLeaves, decoded, salvaged, undecoded, ServeLeaves, ServesDescribed, CarryOutLeaves, unread, refused, unserved, served, ObeyLeaves}
+
+-- two statuses that are one, but for the number taken where both pass a limit
+abbrev pub Alike : Status → Status → Type 0
+Alike s t = (t ≡ s) ⊎ ((taken other : ℕ) × (s ≡ TooLong taken) × (t ≡ TooLong other))
 
 -- a run whose last write tells the line of the status, after which report is seen so
 abbrev pub with_line : Call → SinkView → Call
@@ -41,10 +45,6 @@ abbrev pub line_call : SinkCall → SinkView → SinkCall
 line_call s last = record { tells = s.tells; before = s.after; after = last }
 
 -- counts of faults over more than one call
-pub rose-later : (a b c : ℕ) → a ≤ b → Rose b c → Rose a c
-rose-later a b c l (inl h) = inl (omega arith)
-rose-later a b c l (inr h) = inr h
-
 pub stayed-top : (a b c : ℕ) → a ≤ b → b ≤ c → b ≡ 2 ^ 64 - 1 → (a < c) ⊎ (c ≡ 2 ^ 64 - 1)
 stayed-top a b c l m h = elim (cases_lt b c) [
   | inl k ↦ inl (omega arith)
@@ -152,7 +152,7 @@ ends-own s command (inr (inr (inr (inr h)))) (inr (inr e)) = let k : ReportFault
 -- what each fault says
 pub encode-InputFault : (e : EncodeCall) (answer : Result EncodeCounts EncodeFault) → InputFault ≡ encode_status answer → EncodeFaultAs e answer → Rose e.source.faults e.source_after.faults
 encode-InputFault e (Ok counts) is h = let z : ⊥ = cc in absurd z
-encode-InputFault e (Err encoding.InputFault) is h = h
+encode-InputFault e (Err encoding.InputFault) is h = h.1
 encode-InputFault e (Err encoding.OutFault) is h = let z : ⊥ = cc in absurd z
 encode-InputFault e (Err (encoding.TooLong taken)) is h = let z : ⊥ = cc in absurd z
 

@@ -26,7 +26,7 @@ use Rattle.agcode_top.specs.Erase.{word_in, marks_in, lost_in, IsMarkedWord, IsO
 use Rattle.agcode_top.specs.Filled.{LeavesFilled, all_written, out_failed, report_failed, memory_wanted, FillLeaves, fills, fills_nothing, fill_wants}
 use Rattle.agcode_top.specs.Commands.{Saying, most_taken, TakesFor, PassesAt}
 use Rattle.agcode_top.specs.Leaves.{AnswerLeaves, said, out_stopped, report_stopped, input_stopped, wanting}
-use Rattle.agcode_top.specs.Headline.{IsLike}
+use Rattle.agcode_top.proofs.EndLemmas.{Alike}
 use Rattle.agcode_top.proofs.RunLemmas.{told-nothing}
 
 -- ---- what erase says is one answer
@@ -52,7 +52,7 @@ module _ (p : Parts) (input : List ℕ) where
   one-least : (a b : ℕ) → IsLeastDifference (checks p) (word_in p input) (lost_in p input) a → IsLeastDifference (checks p) (word_in p input) (lost_in p input) b → a ≡ b
   one-least a b h k = one_place (checks p) (word_in p input) (lost_in p input) a b h k
 
-  pub one-erase : (s t : Status) (text told other tells : List ℕ) → SaysErase p input s text told → SaysErase p input t other tells → IsLike s t
+  pub one-erase : (s t : Status) (text told other tells : List ℕ) → SaysErase p input s text told → SaysErase p input t other tells → Alike s t
   one-erase s t text told other tells (word_length taken e h x y) (word_length taken' f k z w) = inl (f ∙ ap (λ (n : ℕ). WordLength n) (k.taken_is ∙ sym h.taken_is) ∙ sym e)
   one-erase s t text told other tells (word_length taken e h x y) (bad_mark place f long k z w) = absurd (h.other long)
   one-erase s t text told other tells (word_length taken e h x y) (no_codeword f m k z w) = absurd (h.other m.long)

@@ -16,25 +16,26 @@ use Rattle.stream_codec.specs.declared.decode.DecodeCounts.{DecodeCounts}
 use Rattle.stream_codec.specs.declared.decode.DecodeFault.{DecodeFault}
 use Rattle.stream_codec.specs.declared.decode.DecodeFault.TheVariants as decoding
 use Rattle.stream_codec.specs.Encoded.{EncodeToldAs, StoresFile}
-use Rattle.stream_codec.specs.Decoding.{ToldAs, ReadsFile, Refuses}
+use Rattle.stream_codec.specs.Decoding.{Decode as DecodeCall, ToldAs, ReadsFile, Refuses, FaultAs}
 use Rattle.stream_codec.specs.Report.{lines_of, lines, done, done_at, counts_of}
 use Rattle.code_descriptor.specs.Parts.{Parts}
 use Rattle.descriptor_code.specs.Plain.{plain_form}
 use Rattle.stream_codec.specs.declared.limits.TheConstants.{MOST_BYTES}
 use Rattle.agcode_top.specs.declared.status.Status.{Status}
 use Rattle.agcode_top.specs.declared.status.Status.TheVariants.{Done, NoMemory, Salvaged}
-use Rattle.agcode_top.specs.Calls.{Call, SourceCall, SinkCall, until, once_given, GivesText, GivesOrFails, EndsText, NoneFailed}
+use Rattle.agcode_top.specs.Calls.{Call, SourceCall, SinkCall, until, once_given, GivesText, WritesWell, GivesOrFails, NoneFailed}
 use Rattle.agcode_top.specs.Statuses.{OnWords, OnCommand, IsRead, IsOwn}
 use Rattle.agcode_top.specs.Commands.{Accepts}
 use Rattle.agcode_top.specs.Lines.{line_of}
 use Rattle.agcode_top.specs.Streams.{Encoded, Decoded, SalvagedText, encode_status, decode_status, encode_of, decode_of}
 use Rattle.agcode_top.specs.Leaves.{EncodeLeaves, encoded, unencoded, DecodeLeaves, decoded, salvaged, undecoded, ServesDescribed, CarryOutLeaves, unread, refused, unserved, served, ObeyLeaves}
 use Rattle.agcode_top.specs.Headline.{StoresImage, HasImage, Repairs, Repaired, status_of_reading, ReadsText, ReadAs, EncodesAs, DecodesAs, Rescues, RescuedOver, SalvagesExactly, SalvagesAs}
-use Rattle.agcode_top.proofs.EndLemmas.{with_line, line_call, rose-later, carried-served, obeyed-carried, described-at, same-parts}
+use Rattle.agcode_top.proofs.EndLemmas.{with_line, line_call, carried-served, obeyed-carried, described-at, same-parts}
 use Rattle.stored_form.specs.Salvage.{lost_count}
 use Rattle.stream_codec.specs.Salvaging.{salvage_report}
 use Rattle.agcode_top.proofs.SalvageLemmas.{file-none, plain-decoded, read-none, rescued, decode-Salvaged, salvages-all}
 use Rattle.agcode_top.proofs.StillLemmas.{no-line}
+use Rattle.agcode_top.proofs.AnswerLemmas.{gives-told}
 use Rattle.agcode_top.proofs.CauseLemmas.{decode-answer, none-first}
 
 -- encoding
@@ -130,31 +131,39 @@ file-output : (F : Form) (z x : List ℕ) → reading F z ≡ File x → output 
 unfolding output
 file-output F z x e = ap (λ (r : Reading). out_at F z r) e
 
-gives-line : (s : SinkCall) (last : SinkView) (own line : List ℕ) → GivesText s own → s.before.faults ≤ s.after.faults → GivesOrFails (line_call s last) line → EndsText (once_given (until s last) own) line
-gives-line s last own line g l (inl h) = inl (λ told. h.given told ∙ ap (λ (t : List ℕ). t ++ line) (g told))
-gives-line s last own line g l (inr h) =
-    inr (
-      λ told. subst (λ (t : List ℕ). GaveFront t last.given line) (g told) (h.given told),
-      rose-later s.before.faults s.after.faults last.faults l h.failed,
-    )
+-- the report of a decoding that ends with a status of a reading
+steady-report : (d : DecodeCall) (answer : Result DecodeCounts DecodeFault) → IsRead (decode_status answer) → FaultAs d answer → d.report_after.faults ≡ d.report.faults
+steady-report d (Ok counts) q h = h.0.1
+steady-report d (Err decoding.InputFault) q h = absurd q
+steady-report d (Err decoding.OutFault) q h = absurd q
+steady-report d (Err decoding.ReportFault) q h = absurd q
+steady-report d (Err (decoding.TooLong taken)) q h = absurd q
+steady-report d (Err (decoding.Beyond group word)) q h = h.1
+steady-report d (Err (decoding.Ragged extra)) q h = h.0.1
+steady-report d (Err decoding.Framing) q h = h.0.1
+
+read-report : (p : Parts) (run : Call) (s : Status) (h : Decoded p run.input run.out run.report s) → IsRead s → WritesWell run.report
+read-report p run s h q = steady-report (decode_of (plain_form p) run.input run.out run.report) h.answer (subst IsRead h.status_is q) h.decoded.fault
 
 no-done : (F : Form) (z : List ℕ) (r : Reading) → reading F z ≡ r → done_at F z r ≡ [] → lines F z ≡ lines F z ++ done F z
 no-done F z r e n = sym (append-nil (lines F z)) ∙ ap (λ (t : List ℕ). lines F z ++ t) (sym (ap (λ (y : Reading). done_at F z y) e ∙ n))
 
 refused-as : (p : Parts) (run : Call) (s : Status) (last : SinkView) (h : Decoded p run.input run.out run.report s) (r : Reading) → Refuses (decode_of (plain_form p) run.input run.out run.report) r →
-    s ≡ status_of_reading r → done_at (plain_form p) run.input.before.left r ≡ [] → Accepts Decode run.desc.before.left p → run.report.before.faults ≤ run.report.after.faults →
+    s ≡ status_of_reading r → done_at (plain_form p) run.input.before.left r ≡ [] → Accepts Decode run.desc.before.left p → WritesWell run.report →
     GivesOrFails (line_call run.report last) (line_of s) → ReadAs (with_line run last) s
 refused-as p run s last h r k is n a l t = record {
   parts = p;
   accepted = a;
   status_is = is ∙ ap status_of_reading (sym k.reads);
   given = k.out;
-  told = gives-line run.report last (lines (plain_form p) run.input.before.left ++ done (plain_form p) run.input.before.left) (line_of s)
-      (λ mt. k.report mt ∙ ap (λ (bytes : List ℕ). run.report.before.given ++ bytes) (no-done (plain_form p) run.input.before.left r k.reads n)) l t;
+  told = gives-told run.report last (lines (plain_form p) run.input.before.left ++ done (plain_form p) run.input.before.left) (line_of s) (record {
+    given = λ mt. k.report mt ∙ ap (λ (bytes : List ℕ). run.report.before.given ++ bytes) (no-done (plain_form p) run.input.before.left r k.reads n);
+    well = l;
+  }) t;
 }
 
 read-as : (p : Parts) (run : Call) (s : Status) (last : SinkView) (h : Decoded p run.input run.out run.report s) (answer : Result DecodeCounts DecodeFault) → h.answer ≡ answer → s ≡ decode_status answer → IsRead s →
-    IsTrue run.input.tells → Accepts Decode run.desc.before.left p → run.report.before.faults ≤ run.report.after.faults → GivesOrFails (line_call run.report last) (line_of s) → ReadAs (with_line run last) s
+    IsTrue run.input.tells → Accepts Decode run.desc.before.left p → WritesWell run.report → GivesOrFails (line_call run.report last) (line_of s) → ReadAs (with_line run last) s
 read-as p run s last h (Ok counts) e is q told a l t =
     let w : (x : List ℕ) × ReadsFile (decode_of (plain_form p) run.input run.out run.report) x counts =
     subst (λ (r : Result DecodeCounts DecodeFault). ToldAs (decode_of (plain_form p) run.input run.out run.report) r) e (h.decoded.told told) in
@@ -163,7 +172,7 @@ read-as p run s last h (Ok counts) e is q told a l t =
       accepted = a;
       status_is = is ∙ ap status_of_reading (sym w.1.reads);
       given = λ ot. w.1.out ot ∙ ap (λ (bytes : List ℕ). run.out.before.given ++ bytes) (sym (file-output (plain_form p) run.input.before.left w.0 w.1.reads));
-      told = gives-line run.report last (lines (plain_form p) run.input.before.left ++ done (plain_form p) run.input.before.left) (line_of s) w.1.report l t;
+      told = gives-told run.report last (lines (plain_form p) run.input.before.left ++ done (plain_form p) run.input.before.left) (line_of s) (record { given = w.1.report; well = l }) t;
     }
 read-as p run s last h (Err decoding.InputFault) e is q told a l t = absurd (subst IsRead is q)
 read-as p run s last h (Err decoding.OutFault) e is q told a l t = absurd (subst IsRead is q)
@@ -176,13 +185,13 @@ read-as p run s last h (Err (decoding.Ragged extra)) e is q told a l t = refused
 read-as p run s last h (Err decoding.Framing) e is q told a l t = refused-as p run s last h ReadFraming
     (subst (λ (r : Result DecodeCounts DecodeFault). ToldAs (decode_of (plain_form p) run.input run.out run.report) r) e (h.decoded.told told)) is refl a l t
 
-reading-over : (ws : Words) (run : Call) (s : Status) (last : SinkView) (p : Parts) → DecodeLeaves ws p run.input run.out run.report s → IsRead s → Accepts Decode run.desc.before.left p → IsTrue run.input.tells → run.report.before.faults ≤ run.report.after.faults →
+reading-over : (ws : Words) (run : Call) (s : Status) (last : SinkView) (p : Parts) → DecodeLeaves ws p run.input run.out run.report s → IsRead s → Accepts Decode run.desc.before.left p → IsTrue run.input.tells →
     GivesOrFails (line_call run.report last) (line_of s) → ReadAs (with_line run last) s
-reading-over ws run s last p (decoded flag h) q a it l t = read-as p run s last h h.answer refl h.status_is q it a l t
-reading-over ws run s last p (salvaged flag h) q a it l t =
+reading-over ws run s last p (decoded flag h) q a it t = read-as p run s last h h.answer refl h.status_is q it a (read-report p run s h q) t
+reading-over ws run s last p (salvaged flag h) q a it t =
     let d = plain-decoded p run.input run.out run.report s h it (read-none p run.input run.out run.report s h it q) in
-    read-as p run s last d d.answer refl d.status_is q it a l t
-reading-over ws run s last p (undecoded e still) q a it l t = absurd (subst IsRead e q)
+    read-as p run s last d d.answer refl d.status_is q it a (read-report p run s d q) t
+reading-over ws run s last p (undecoded e still) q a it t = absurd (subst IsRead e q)
 
 carried-read : (ws : Words) (command : Command) (run : Call) (s : Status) → CarryOutLeaves ws command run s → IsRead s → ServesDescribed ws command run s
 carried-read ws command run s (unread e failed still) q = absurd (subst IsRead e q)
@@ -190,11 +199,11 @@ carried-read ws command run s (refused cause e why well still) q = absurd (subst
 carried-read ws command run s (unserved e well still) q = absurd (subst IsRead e q)
 carried-read ws command run s (served h) q = h
 
-pub run-reading : (texts : List (List ℕ)) (run : Call) (s : Status) (last : SinkView) → ObeyLeaves texts run s → run.report.before.faults ≤ run.report.after.faults →
+pub run-reading : (texts : List (List ℕ)) (run : Call) (s : Status) (last : SinkView) → ObeyLeaves texts run s →
     GivesOrFails (line_call run.report last) (line_of s) → OnCommand texts Decode (ReadsText (with_line run last) s)
-run-reading texts run s last h l t v k c q told it =
+run-reading texts run s last h t v k c q told it =
     let g : ServesDescribed v Decode run s = carried-read v Decode run s (subst (λ (y : Command). CarryOutLeaves v y run s) c (obeyed-carried texts run s h v k)) q in
-    reading-over v run s last g.parts g.leaves q (g.accepted told) it l t
+    reading-over v run s last g.parts g.leaves q (g.accepted told) it t
 
 -- all that encode and decode leave
 encoded-own : (p : Parts) (i : SourceCall) (o r : SinkCall) (s : Status) → IsOwn s → EncodeLeaves p i o r s → Encoded p i o s

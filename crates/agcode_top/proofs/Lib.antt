@@ -5,9 +5,10 @@ pub mod DesignLemmas
 pub mod TableLemmas
 pub mod StreamLemmas
 pub mod SalvageLemmas
-pub mod EraseLemmas
 pub mod EndLemmas
+pub mod EraseLemmas
 pub mod StillLemmas
 pub mod CauseLemmas
 pub mod AnswerLemmas
 pub mod HeadlineLemmas
+pub mod PiecesLemmas

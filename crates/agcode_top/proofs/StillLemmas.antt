@@ -1,5 +1,5 @@
 -- What a run leaves untouched, takes and counts, and the line of its status
-use Rattle.std.proofs.Common.{◌≡◌, ℕ, ◌+◌, ◌-◌, ◌<◌, ◌≤◌, List, [], ◌++◌, ◌∷◌, take, length, true, false, IsTrue, sym, ap, ◌∙◌, refl, inl, inr, ◌⊎◌, subst, arith, Result, Ok, Err, append-nil, length-append}
+use Rattle.std.proofs.Common.{◌≡◌, ℕ, ◌+◌, ◌-◌, ◌<◌, ◌≤◌, List, [], ◌++◌, ◌∷◌, take, length, Bool, true, false, IsTrue, sym, ap, ◌∙◌, refl, inl, inr, ◌⊎◌, subst, arith, Result, Ok, Err, append-nil, length-append}
 use Rattle.ag_io.specs.Counts.{Rose}
 use Rattle.ag_io.specs.Views.{SourceView, SinkView, GaveFront}
 use Rattle.command_words.specs.declared.words.Command.{Command}
@@ -14,9 +14,10 @@ use Rattle.stream_codec.specs.declared.decode.DecodeFault.TheVariants as decodin
 use Rattle.stored_form.specs.Frame.{group_bytes}
 use Rattle.stream_codec.specs.declared.limits.TheConstants.{PIECE}
 use Rattle.std.proofs.lemmas.List.{length-take-le}
+use Rattle.std.proofs.lemmas.Bool.{cond-true, cond-false}
 use Rattle.stream_codec.specs.Taking.{taken_from, most_taken as most_of_pieces}
-use Rattle.stream_codec.specs.Encoded.{EncodeToldAs}
-use Rattle.stream_codec.specs.Decoding.{ToldAs}
+use Rattle.stream_codec.specs.Encoded.{EncodeToldAs, EncodeFaultAs}
+use Rattle.stream_codec.specs.Decoding.{ToldAs, FaultAs}
 use Rattle.stream_codec.specs.declared.salvage.SalvageCounts.{SalvageCounts}
 use Rattle.stream_codec.specs.Salvaging.{plain, SalvagedToldAs}
 use Rattle.code_descriptor.specs.Parts.{Parts}
@@ -25,7 +26,7 @@ use Rattle.stream_codec.specs.declared.limits.TheConstants.{MOST_BYTES}
 use Rattle.agcode_top.specs.declared.status.Status.{Status}
 use Rattle.agcode_top.specs.declared.status.Status.TheVariants.{Done, NotCodeword, Beyond, Ragged, Framing, TableRefused, WordLength, Salvaged, BadMark, NoCodeword, Ambiguous, NoDesign, Usage, Descriptor, TooLong, DescFault, InputFault, OutFault, ReportFault, NoMemory}
 use Rattle.agcode_top.specs.Calls.{Call, SourceCall, SinkCall, Untouched, until, IsUngiven, ReadsWell, WritesWell, GivesOrFails, TakesJust, TakesAtMost}
-use Rattle.agcode_top.specs.Statuses.{OnWords, IsEarly, IsOwn, IsQuiet, is_streamed, is_passing, has_text, TellsMore, CanSay}
+use Rattle.agcode_top.specs.Statuses.{OnWords, IsEarly, IsOwn, IsQuiet, is_streamed, is_passing, is_ahead, reads_ahead, has_text, TellsMore, CanSay}
 use Rattle.agcode_top.specs.Commands.{Accepts, TakesFor, most_taken}
 use Rattle.agcode_top.specs.Lines.{line_of}
 use Rattle.agcode_top.specs.Streams.{encode_status, decode_status, salvage_status, encode_of, decode_of}
@@ -40,6 +41,12 @@ unread-still before after e = ap (λ (v : SourceView). v.left) e
 
 pub ungiven-still : (before after : SinkView) → after ≡ before → after.given ≡ before.given
 ungiven-still before after e = ap (λ (v : SinkView). v.given) e
+
+pub read-still : (s : SourceCall) → s.after ≡ s.before → ReadsWell s
+read-still s e = ap (λ (v : SourceView). v.faults) e
+
+pub write-still : (s : SinkCall) → s.after ≡ s.before → WritesWell s
+write-still s e = ap (λ (v : SinkView). v.faults) e
 
 pub carried-early : (ws : Words) (command : Command) (run : Call) (s : Status) → CarryOutLeaves ws command run s → IsEarly s → Untouched run.input run.out run.report
 carried-early ws command run s (unread k failed still) q = still
@@ -97,11 +104,17 @@ run-early texts run s last (inl u) = record {
   desc = λ e told. unread-still run.desc.before run.desc.after u.desc_still;
   input = λ q told. unread-still run.input.before run.input.after u.still.input_still;
   out = λ q told. ungiven-still run.out.before run.out.after u.still.out_still;
+  desc_well = λ e. read-still run.desc u.desc_still;
+  input_well = λ q. read-still run.input u.still.input_still;
+  out_well = λ q. write-still run.out u.still.out_still;
 }
 run-early texts run s last (inr w) = record {
   desc = λ e. absurd (carried-not-Usage w.words w.words.command run s w.leaves e);
   input = λ q told. unread-still run.input.before run.input.after (carried-early w.words w.words.command run s w.leaves q).input_still;
   out = λ q told. ungiven-still run.out.before run.out.after (still-out q);
+  desc_well = λ e. absurd (carried-not-Usage w.words w.words.command run s w.leaves e);
+  input_well = λ q. read-still run.input (carried-early w.words w.words.command run s w.leaves q).input_still;
+  out_well = λ q. write-still run.out (still-out q);
 }
   where
     still-out : IsEarly s ⊎ (s ≡ NoMemory) → run.out.after ≡ run.out.before
@@ -209,9 +222,6 @@ answer-most ws command p i o r s (wanting h) = h.most
 pub most-at : (command x : Command) (p : Parts) (i : SourceCall) → command ≡ x → TakesAtMost (most_taken x p) i → TakesAtMost (most_taken command p) i
 most-at command x p i e h = subst (λ (y : Command). TakesAtMost (most_taken y p) i) (sym e) h
 
-pub most-sum : (s : SourceCall) (a b : ℕ) → (IsTrue s.tells → length s.before.left ≤ length s.after.left + a + b) → TakesAtMost (a + b) s
-most-sum s a b h = λ told. let k : _ = h told in omega arith
-
 pub most-long : (s : SourceCall) (most : ℕ) → (IsTrue s.tells → length (taken_from s.before s.after) ≤ most) → TakesAtMost most s
 most-long s most h = λ told.
     let k : length (take (length s.before.left - length s.after.left) s.before.left) ≡ length s.before.left - length s.after.left = length-take-le (length s.before.left - length s.after.left) s.before.left (omega arith) in
@@ -220,7 +230,7 @@ most-long s most h = λ told.
 
 pub serve-most : (ws : Words) (command : Command) (p : Parts) (i : SourceCall) (o r : SinkCall) (s : Status) → Served ws command p i o r s → TakesAtMost (most_taken command p) i
 serve-most ws command p i o r s (one_text n h) = answer-most ws command p i o r s h
-serve-most ws command p i o r s (encodes c (encoded h still)) = most-at command Encode p i c (most-sum i MOST_BYTES PIECE h.encoded.most)
+serve-most ws command p i o r s (encodes c (encoded h still)) = most-at command Encode p i c (most-long i (most_of_pieces PIECE MOST_BYTES) h.encoded.most)
 serve-most ws command p i o r s (encodes c (unencoded e still)) = still-most i (most_taken command p) still.input_still
 serve-most ws command p i o r s (decodes c (decoded flag h)) = most-at command Decode p i c (most-long i (most_of_pieces (group_bytes (plain_form p)) MOST_BYTES) h.decoded.most)
 serve-most ws command p i o r s (decodes c (salvaged flag h)) = most-at command Decode p i c (most-long i (most_of_pieces (group_bytes (plain_form p)) MOST_BYTES) h.salvaged.most)
@@ -263,7 +273,7 @@ pub number-encode : (p : Parts) (i : SourceCall) (o : SinkCall) (taken : ℕ) (a
 number-encode p i o taken (Ok counts) h e = absurd (let z : ⊥ = cc in z)
 number-encode p i o taken (Err encoding.InputFault) h e = absurd (let z : ⊥ = cc in z)
 number-encode p i o taken (Err encoding.OutFault) h e = absurd (let z : ⊥ = cc in z)
-number-encode p i o taken (Err (encoding.TooLong other)) h e = just-same i other taken (sym (same-taken taken other e)) (λ told. just-append i (h told).0 other (h told).1.left (h told).1.taken_is)
+number-encode p i o taken (Err (encoding.TooLong other)) h e = just-same i other taken (sym (same-taken taken other e)) (λ told. just-append i (taken_from i.before i.after) other (h told).left (h told).count_is)
 
 pub number-decode : (p : Parts) (i : SourceCall) (o r : SinkCall) (taken : ℕ) (answer : Result DecodeCounts DecodeFault) → (IsTrue i.tells → ToldAs (decode_of (plain_form p) i o r) answer) → TooLong taken ≡ decode_status answer → TakesJust taken i
 number-decode p i o r taken (Ok counts) h e = absurd (let z : ⊥ = cc in z)
@@ -333,19 +343,13 @@ run-number texts run s (inl u) taken (inr e) = absurd (let k : Usage ≡ WordLen
 run-number texts run s (inr w) taken e = number-carried w.words w.words.command run s taken w.leaves e
 
 -- counts of faults
-pub record Kept (s : Status) (i : SourceCall) (o r : SinkCall) : Type 0 where
-  pub input : (s ≡ InputFault → ⊥) → is_passing s ≡ false → ReadsWell i
+pub record Kept (ahead : Bool) (s : Status) (i : SourceCall) (o r : SinkCall) : Type 0 where
+  pub input : (s ≡ InputFault → ⊥) → ahead ≡ false → ReadsWell i
   pub out : (s ≡ OutFault → ⊥) → WritesWell o
   pub report : (s ≡ ReportFault → ⊥) → WritesWell r
 
-pub read-still : (s : SourceCall) → s.after ≡ s.before → ReadsWell s
-read-still s e = ap (λ (v : SourceView). v.faults) e
-
-pub write-still : (s : SinkCall) → s.after ≡ s.before → WritesWell s
-write-still s e = ap (λ (v : SinkView). v.faults) e
-
-pub untouched-kept : (s : Status) (i : SourceCall) (o r : SinkCall) → Untouched i o r → Kept s i o r
-untouched-kept s i o r h = record { input = λ n q. read-still i h.input_still; out = λ n. write-still o h.out_still; report = λ n. write-still r h.report_still }
+pub untouched-kept : (ahead : Bool) (s : Status) (i : SourceCall) (o r : SinkCall) → Untouched i o r → Kept ahead s i o r
+untouched-kept ahead s i o r h = record { input = λ n q. read-still i h.input_still; out = λ n. write-still o h.out_still; report = λ n. write-still r h.report_still }
 
 pub not-passing : (s : Status) → has_text s ≡ true → is_passing s ≡ false
 not-passing Done e = refl
@@ -369,27 +373,70 @@ not-passing OutFault e = refl
 not-passing ReportFault e = refl
 not-passing NoMemory e = refl
 
-pub answer-kept : (ws : Words) (command : Command) (p : Parts) (i : SourceCall) (o r : SinkCall) (s : Status) → AnswerLeaves ws command p i o r s → Kept s i o r
+pub answer-kept : (ws : Words) (command : Command) (p : Parts) (i : SourceCall) (o r : SinkCall) (s : Status) → AnswerLeaves ws command p i o r s → Kept (is_passing s) s i o r
 answer-kept ws command p i o r s (said h) = record { input = λ n q. h.saying.read_well q; out = λ n. h.written.well; report = λ n. h.reported.well }
 answer-kept ws command p i o r s (out_stopped h) = record { input = λ n q. h.saying.read_well (not-passing h.answer h.has); out = λ n. absurd (n h.status_is); report = λ n. write-still r h.report_still }
 answer-kept ws command p i o r s (report_stopped h) = record { input = λ n q. h.saying.read_well (not-passing h.answer h.has); out = λ n. h.written.well; report = λ n. absurd (n h.status_is) }
 answer-kept ws command p i o r s (input_stopped h) = record { input = λ n q. absurd (n h.status_is); out = λ n. write-still o h.out_still; report = λ n. write-still r h.report_still }
 answer-kept ws command p i o r s (wanting h) = record { input = λ n q. h.read_well; out = λ n. write-still o h.out_still; report = λ n. write-still r h.report_still }
 
-pub kept-line : (run : Call) (s : Status) (last : SinkView) → ((s ≡ DescFault → ⊥) → ReadsWell run.desc) → Kept s run.input run.out run.report → (line_of s ≡ [] → last.faults ≡ run.report.after.faults) → KeepsCounts (with_line run last) s
-kept-line run s last desc h quiet = record { desc = desc; input = h.input; out = h.out; report = λ n e. quiet e ∙ h.report n }
+-- what a stream answers, by the counts that it kept
+encode-kept : (p : Parts) (i : SourceCall) (o r : SinkCall) (answer : Result EncodeCounts EncodeFault) → EncodeFaultAs (encode_of (plain_form p) i o) answer → r.after ≡ r.before → Kept (is_ahead (encode_status answer)) (encode_status answer) i o r
+encode-kept p i o r (Ok counts) h e = record { input = λ n q. h.1; out = λ n. h.0; report = λ n. write-still r e }
+encode-kept p i o r (Err encoding.InputFault) h e = record { input = λ n q. absurd (n refl); out = λ n. h.0; report = λ n. write-still r e }
+encode-kept p i o r (Err encoding.OutFault) h e = record { input = λ n q. absurd (let z : ⊥ = cc in z); out = λ n. absurd (n refl); report = λ n. write-still r e }
+encode-kept p i o r (Err (encoding.TooLong taken)) h e = record { input = λ n q. absurd (let z : ⊥ = cc in z); out = λ n. h.0; report = λ n. write-still r e }
 
-pub carried-kept : (ws : Words) (command : Command) (run : Call) (s : Status) (last : SinkView) → CarryOutLeaves ws command run s → is_streamed command ≡ false → (line_of s ≡ [] → last.faults ≡ run.report.after.faults) → KeepsCounts (with_line run last) s
-carried-kept ws command run s last (unread k failed still) n quiet = kept-line run s last (λ other. absurd (other k)) (untouched-kept s run.input run.out run.report still) quiet
-carried-kept ws command run s last (refused cause k why well still) n quiet = kept-line run s last (λ _. well) (untouched-kept s run.input run.out run.report still) quiet
-carried-kept ws command run s last (unserved k well still) n quiet = kept-line run s last (λ _. well) (untouched-kept s run.input run.out run.report still) quiet
-carried-kept ws command run s last (served h) n quiet =
-    kept-line run s last (λ _. h.desc_well)
-    (answer-kept ws command h.parts run.input run.out run.report s (serves-text ws command h.parts run.input run.out run.report s n (serves ws command h.parts run.input run.out run.report s h.leaves))) quiet
+fault-kept : (C : Type 0) (p : Parts) (i : SourceCall) (o r : SinkCall) (fault : DecodeFault) → FaultAs {C = C} (decode_of (plain_form p) i o r) (Err fault) → Kept (is_ahead (decode_status (Err fault))) (decode_status (Err fault)) i o r
+fault-kept C p i o r decoding.InputFault h = record { input = λ n q. absurd (n refl); out = λ n. h.0.0; report = λ n. h.0.1 }
+fault-kept C p i o r decoding.OutFault h = record { input = λ n q. absurd (let z : ⊥ = cc in z); out = λ n. absurd (n refl); report = λ n. h.0 }
+fault-kept C p i o r decoding.ReportFault h = record { input = λ n q. absurd (let z : ⊥ = cc in z); out = λ n. h.0; report = λ n. absurd (n refl) }
+fault-kept C p i o r (decoding.TooLong taken) h = record { input = λ n q. absurd (let z : ⊥ = cc in z); out = λ n. h.0.0; report = λ n. h.0.1 }
+fault-kept C p i o r (decoding.Beyond group word) h = record { input = λ n q. absurd (let z : ⊥ = cc in z); out = λ n. h.0; report = λ n. h.1 }
+fault-kept C p i o r (decoding.Ragged extra) h = record { input = λ n q. h.1; out = λ n. h.0.0; report = λ n. h.0.1 }
+fault-kept C p i o r decoding.Framing h = record { input = λ n q. h.1; out = λ n. h.0.0; report = λ n. h.0.1 }
 
-pub run-kept : (texts : List (List ℕ)) (run : Call) (s : Status) (last : SinkView) → ObeyLeaves texts run s → (line_of s ≡ [] → last.faults ≡ run.report.after.faults) →
-    OnWords texts (λ w. is_streamed w.command ≡ false → KeepsCounts (with_line run last) s)
-run-kept texts run s last h quiet v k n = carried-kept v v.command run s last (obeyed-carried texts run s h v k) n quiet
+decode-kept : (p : Parts) (i : SourceCall) (o r : SinkCall) (answer : Result DecodeCounts DecodeFault) → FaultAs (decode_of (plain_form p) i o r) answer → Kept (is_ahead (decode_status answer)) (decode_status answer) i o r
+decode-kept p i o r (Ok counts) h = record { input = λ n q. h.1; out = λ n. h.0.0; report = λ n. h.0.1 }
+decode-kept p i o r (Err fault) h = fault-kept DecodeCounts p i o r fault h
+
+salvage-kept : (p : Parts) (i : SourceCall) (o r : SinkCall) (answer : Result SalvageCounts DecodeFault) → FaultAs (decode_of (plain_form p) i o r) answer → Kept (is_ahead (salvage_status answer)) (salvage_status answer) i o r
+salvage-kept p i o r (Ok counts) h = record { input = λ n q. h.1; out = λ n. h.0.0; report = λ n. h.0.1 }
+salvage-kept p i o r (Err fault) h = fault-kept SalvageCounts p i o r fault h
+
+kept-at : (s t : Status) (i : SourceCall) (o r : SinkCall) → s ≡ t → Kept (is_ahead t) t i o r → Kept (is_ahead s) s i o r
+kept-at s t i o r e h = subst (λ (x : Status). Kept (is_ahead x) x i o r) (sym e) h
+
+ahead-is : (command : Command) (s : Status) (i : SourceCall) (o r : SinkCall) (ahead : Bool) → reads_ahead command s ≡ ahead → Kept ahead s i o r → Kept (reads_ahead command s) s i o r
+ahead-is command s i o r ahead e h = subst (λ (b : Bool). Kept b s i o r) (sym e) h
+
+streamed-ahead : (command x : Command) (s : Status) → command ≡ x → is_streamed x ≡ true → reads_ahead command s ≡ is_ahead s
+streamed-ahead command x s c t = cond-true (is_streamed command) (is_ahead s) (is_passing s) (ap is_streamed c ∙ t)
+
+pub serve-kept : (ws : Words) (command : Command) (p : Parts) (i : SourceCall) (o r : SinkCall) (s : Status) → Served ws command p i o r s → Kept (reads_ahead command s) s i o r
+serve-kept ws command p i o r s (one_text n h) = ahead-is command s i o r (is_passing s) (cond-false (is_streamed command) (is_ahead s) (is_passing s) n) (answer-kept ws command p i o r s h)
+serve-kept ws command p i o r s (encodes c (encoded h still)) =
+    ahead-is command s i o r (is_ahead s) (streamed-ahead command Encode s c refl) (kept-at s (encode_status h.answer) i o r h.status_is (encode-kept p i o r h.answer h.encoded.fault still))
+serve-kept ws command p i o r s (encodes c (unencoded e still)) = untouched-kept (reads_ahead command s) s i o r still
+serve-kept ws command p i o r s (decodes c (decoded flag h)) =
+    ahead-is command s i o r (is_ahead s) (streamed-ahead command Decode s c refl) (kept-at s (decode_status h.answer) i o r h.status_is (decode-kept p i o r h.answer h.decoded.fault))
+serve-kept ws command p i o r s (decodes c (salvaged flag h)) =
+    ahead-is command s i o r (is_ahead s) (streamed-ahead command Decode s c refl) (kept-at s (salvage_status h.answer) i o r h.status_is (salvage-kept p i o r h.answer h.salvaged.fault))
+serve-kept ws command p i o r s (decodes c (undecoded e still)) = untouched-kept (reads_ahead command s) s i o r still
+
+pub kept-line : (command : Command) (run : Call) (s : Status) (last : SinkView) → ((s ≡ DescFault → ⊥) → ReadsWell run.desc) → Kept (reads_ahead command s) s run.input run.out run.report →
+    (line_of s ≡ [] → last.faults ≡ run.report.after.faults) → KeepsCounts command (with_line run last) s
+kept-line command run s last desc h quiet = record { desc = desc; input = h.input; out = h.out; report = λ n e. quiet e ∙ h.report n }
+
+pub carried-kept : (ws : Words) (command : Command) (run : Call) (s : Status) (last : SinkView) → CarryOutLeaves ws command run s → (line_of s ≡ [] → last.faults ≡ run.report.after.faults) → KeepsCounts command (with_line run last) s
+carried-kept ws command run s last (unread k failed still) quiet = kept-line command run s last (λ other. absurd (other k)) (untouched-kept (reads_ahead command s) s run.input run.out run.report still) quiet
+carried-kept ws command run s last (refused cause k why well still) quiet = kept-line command run s last (λ _. well) (untouched-kept (reads_ahead command s) s run.input run.out run.report still) quiet
+carried-kept ws command run s last (unserved k well still) quiet = kept-line command run s last (λ _. well) (untouched-kept (reads_ahead command s) s run.input run.out run.report still) quiet
+carried-kept ws command run s last (served h) quiet =
+    kept-line command run s last (λ _. h.desc_well) (serve-kept ws command h.parts run.input run.out run.report s (serves ws command h.parts run.input run.out run.report s h.leaves)) quiet
+
+pub run-kept : (texts : List (List ℕ)) (run : Call) (s : Status) (last : SinkView) → ObeyLeaves texts run s → (line_of s ≡ [] → last.faults ≡ run.report.after.faults) → OnWords texts (λ w. KeepsCounts w.command (with_line run last) s)
+run-kept texts run s last h quiet v k = carried-kept v v.command run s last (obeyed-carried texts run s h v k) quiet
 
 -- a line that has no bytes
 pub line-nothing : (before after text : List ℕ) → text ≡ [] → after ≡ before ++ text → after ≡ before

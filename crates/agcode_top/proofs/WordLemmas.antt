@@ -1,5 +1,5 @@
 -- How the commands that read a word end, by what was read and what was written
-use Rattle.std.proofs.Common.{◌≡◌, ◌≢◌, ℕ, ◌+◌, ◌≤◌, min, inl, inr, List, [], length, codes, Bool, true, false, IsTrue, arith, sym, ap, subst, ◌∙◌, refl}
+use Rattle.std.proofs.Common.{◌≡◌, ◌≢◌, ℕ, ◌+◌, ◌<◌, ◌≤◌, All, min, inl, inr, List, [], length, codes, Bool, true, false, IsTrue, arith, sym, ap, subst, ◌∙◌, refl}
 use Rattle.block_theory.specs.Checks.{ParityChecks, IsInCode}
 use Rattle.block_theory.proofs.Forms.{code_law}
 use Rattle.block_theory.proofs.Lists.{distance_same}
@@ -137,10 +137,9 @@ near-plain p c got word changes plain made h = near-word p c got word plain made
 pub far-plain : (p : Parts) (c : Compiled) (got word : List ℕ) → IsPlain p c → IsMade c → IsVerdict c got word Far → IsFar p got
 far-plain p c got word plain made h = λ x near. h.none x (word-near p c got x plain made near)
 
-pub ledger-plain : (p : Parts) (c : Compiled) (got word : List ℕ) (changes : ℕ) (lines : List VoteLine) → IsPlain p c → lines ≡ ledger_after c got word (Near changes) →
-    votes_text_of lines ≡ votes_text_of (ledger p (list_sum (low_bits p.bits got) word))
+pub ledger-plain : (p : Parts) (c : Compiled) (got word : List ℕ) (changes : ℕ) (lines : List VoteLine) → IsPlain p c → lines ≡ ledger_after c got word (Near changes) → lines ≡ ledger p (list_sum (low_bits p.bits got) word)
 ledger-plain p c got word changes lines plain e =
-    ap votes_text_of (e ∙ plain.ledger_is (list_sum (low_bits c.basis.bits got) word) ∙ ap (λ (b : ℕ). ledger p (list_sum (low_bits b got) word)) plain.bits_are)
+    e ∙ plain.ledger_is (list_sum (low_bits c.basis.bits got) word) ∙ ap (λ (b : ℕ). ledger p (list_sum (low_bits b got) word)) plain.bits_are
 
 -- the word is in the code, or not
 module _ (ws : Words) (p : Parts) (input : SourceCall) (out : SinkCall) (tells : Bool) (report : SinkView) (word : List ℕ) (result : Status)
@@ -172,12 +171,12 @@ module _ (ws : Words) (p : Parts) (input : SourceCall) (out : SinkCall) (tells :
       }) h
 
   -- a codeword is near, or none
-  pub votes-near : (near_word text : List ℕ) → IsNearWord p word near_word → text ≡ votes_text_of (ledger p (list_sum (low_bits p.bits word) near_word)) → LeavesText out text Done result →
-      AnswerLeaves ws Votes p input out (still_sink tells report) result
-  votes-near near_word text near t h =
+  pub votes-near : (near_word text : List ℕ) (lines : List VoteLine) → IsNearWord p word near_word → lines ≡ ledger p (list_sum (low_bits p.bits word) near_word) → All (λ line. line.wrong < line.right) lines →
+      text ≡ votes_text_of lines → LeavesText out text Done result → AnswerLeaves ws Votes p input out (still_sink tells report) result
+  votes-near near_word text lines near are wins t h =
       answered ws Votes p input out tells report text Done result refl (record {
         can = tt;
-        says = λ it. (is_near refl (ap length (read (it refl)) ∙ n) (subst (λ (y : List ℕ). HasVotes p y text) (sym (read (it refl))) (record { word = near_word; near = near; text_is = t })), refl);
+        says = λ it. (is_near refl (ap length (read (it refl)) ∙ n) (subst (λ (y : List ℕ). HasVotes p y text) (sym (read (it refl))) (record { word = near_word; near = near; lines = lines; lines_are = are; right_wins = wins; text_is = t })), refl);
         bare = λ e. absurd (let z : ⊥ = cc in z);
         plain = λ _. refl;
         most = took-all input word (length p.points + 1) read (omega arith);

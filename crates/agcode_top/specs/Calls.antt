@@ -23,7 +23,6 @@
 -- Writes           these bytes were given to a sink, and no write failed
 -- StopsAt          a write failed: a front of these bytes was given, and not all of them
 -- GivesOrFails     one of these two
--- EndsText         these bytes were given to a sink, or a front of them, where a write failed
 -- NoneFailed       none of the four counts rose
 use Rattle.std.specs.Prelude.{ℕ, ◌≡◌, ◌+◌, ◌≤◌, ◌++◌, Bool, IsTrue, List, length, ◌⊎◌}
 use Rattle.ag_io.specs.Counts.{Rose}
@@ -124,9 +123,6 @@ pub record StopsAt (s : SinkCall) (text : List ℕ) : Type 0 where
 
 abbrev pub GivesOrFails : SinkCall → List ℕ → Type 0
 GivesOrFails s text = Writes s text ⊎ StopsAt s text
-
-abbrev pub EndsText : SinkCall → List ℕ → Type 0
-EndsText s text = GivesText s text ⊎ (GivesFront s.tells s.before s.after text × WriteFailed s)
 
 pub record NoneFailed (c : Call) : Type 0 where
   pub desc : ReadFailed c.desc → ⊥

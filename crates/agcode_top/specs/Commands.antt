@@ -10,7 +10,8 @@
 -- RefusesTable       an input is not that table, and this is the first line at which a check fails
 -- IsNearWord         a codeword that differs from an input at no more positions than the radius
 -- IsFar              there is none
--- HasVotes           a text is the ledger of the error that leads an input to the codeword near it
+-- HasVotes           a text is the ledger of the error that leads an input to the codeword near it; on each line more
+--                    candidates are right than wrong
 -- point_text         the line of a point of so many coordinates
 -- points_text        all points of a space, a line each
 -- SaysMember         what member says of an input: its status and its text on out
@@ -26,7 +27,7 @@
 -- Saying             a command says this, where the bytes of the input are told; and what was taken of the input
 -- IsNearCode         an input of n bytes that a codeword is near
 use Rattle.std.specs.Prelude.{◌≡◌, ◌≢◌, ℕ, ◌+◌, ◌*◌, ◌<◌, ◌≤◌, min, Bool, true, false, List, [], length, codes, IsTrue}
-use Rattle.std.specs.Prelude.{◌⊎◌, ◌==◌, if◌then◌else◌, Option}
+use Rattle.std.specs.Prelude.{◌⊎◌, ◌==◌, if◌then◌else◌, Option, All}
 use Rattle.std.specs.List.{flat_map}
 use Rattle.ag_texts.specs.Lines.{plain_line_of, number_line_of}
 use Rattle.ag_texts.specs.Lines.{point1_line_of, point_line_of, point3_line_of}
@@ -50,6 +51,7 @@ use Rattle.descriptor_code.specs.Tables.{ledger, IsTable}
 use Rattle.descriptor_code.specs.Codes.{domain_of}
 use Rattle.code_texts.specs.Texts.{params_text_of, votes_text_of}
 use Rattle.code_trial.specs.Trials.{trial_text_of}
+use Rattle.vote_core.specs.declared.ledger.VoteLine.{VoteLine}
 use Rattle.stored_form.specs.Frame.{group_bytes}
 use Rattle.stream_codec.specs.Taking.{most_taken as most_of_pieces}
 use Rattle.stream_codec.specs.declared.limits.TheConstants.{MOST_BYTES, PIECE}
@@ -123,7 +125,10 @@ pub record IsNearWord (p : Parts) (input word : List ℕ) : Type 0 where
 pub record HasVotes (p : Parts) (input text : List ℕ) : Type 0 where
   pub word : List ℕ
   pub near : IsNearWord p input word
-  pub text_is : text ≡ votes_text_of (ledger p (list_sum (low_bits p.bits input) word))
+  pub lines : List VoteLine
+  pub lines_are : lines ≡ ledger p (list_sum (low_bits p.bits input) word)
+  pub right_wins : All (λ line. line.wrong < line.right) lines
+  pub text_is : text ≡ votes_text_of lines
 
 abbrev pub IsFar : Parts → List ℕ → Type 0
 IsFar p input = (word : List ℕ) → IsNearWord p input word → ⊥

@@ -26,7 +26,8 @@
 -- AnswersUntold       .. or was stopped by a fault of report, after all of its text
 -- AnswersInText       .. over a descriptor of these parts
 -- Yields              the statuses that may come in place of this one, where it is what a command says
--- IsLike              the same status, whatever its number is where a table is refused or too long
+-- IsLike              the same status; where it passes a limit, with all that were left, but at most so many, or fewer
+--                     where a read failed
 -- AnswersExactly      a command that writes one text ends with what it says, or with a status to which that yields
 -- EncodesAs           encode: all that is known of the input and out by the status that it ended with
 -- EncodedOver         .. over a descriptor of these parts
@@ -39,14 +40,14 @@
 -- SalvagesAs          .. all that is known of the input, out and report by the status that it ended with
 -- SalvagedOver        .. over a descriptor of these parts; the line of the status was told last
 -- LeavesUntouched     Usage, DescFault, Descriptor, NoMemory: nothing was given on out; at the first three nothing was
---                     taken of the input, and at the first nothing of the descriptor
+--                     taken of the input, and at the first nothing of the descriptor; and no call of these failed
 -- LeavesUnread        encode and decode: where memory was wanting, nothing was taken of the input
 -- TellsLine           the line of the status and no other is told, or a front of it where the write failed, but by a
 --                     command that tells more
 -- TakesWithin         no command takes more of its input than it may
 -- TellsNumber         a status that tells a number of bytes taken tells just that number
--- KeepsCounts         a command that writes one text: where it did not end with a fault of a source or sink, no call of
---                     that one failed, but for the write of the last line; a read may also fail where it passes a limit
+-- KeepsCounts         where a command did not end with a fault of a source or sink, no call of that one failed, but for
+--                     the write of the last line, and for a read of bytes behind those that the status speaks of
 use Rattle.std.specs.Prelude.{◌≡◌, ℕ, ◌<◌, ◌≤◌, List, [], ◌++◌, length, IsTrue, true, false, ◌⊎◌}
 use Rattle.ag_io.specs.Views.{SinkView}
 use Rattle.ag_texts.specs.Lines.{done_line_of}
@@ -72,13 +73,13 @@ use Rattle.stream_codec.specs.declared.limits.TheConstants.{MOST_BYTES}
 use Rattle.agcode_top.specs.declared.limit.TheConstants.{MOST_TABLE}
 use Rattle.agcode_top.specs.declared.status.Status.{Status}
 use Rattle.agcode_top.specs.declared.status.Status.TheVariants.{Done, Beyond, Ragged, Framing, Salvaged}
-use Rattle.agcode_top.specs.declared.status.Status.TheVariants.{TableRefused, WordLength, TooLong}
+use Rattle.agcode_top.specs.declared.status.Status.TheVariants.{WordLength, TooLong}
 use Rattle.agcode_top.specs.declared.status.Status.TheVariants.{Usage, Descriptor, DescFault, InputFault}
 use Rattle.agcode_top.specs.declared.status.Status.TheVariants.{OutFault, ReportFault, NoMemory}
 use Rattle.agcode_top.specs.Calls.{Call, SourceCall, SinkCall, once_given, until, since}
 use Rattle.agcode_top.specs.Calls.{IsUntaken, IsUngiven, TakesJust, TakesAtMost, ReadsWell, WritesWell}
-use Rattle.agcode_top.specs.Calls.{GivesText, Writes, StopsAt, GivesOrFails, EndsText, NoneFailed}
-use Rattle.agcode_top.specs.Statuses.{is_streamed, reads_input, tells_report, TellsMore, has_text, is_passing}
+use Rattle.agcode_top.specs.Calls.{GivesText, Writes, StopsAt, GivesOrFails, NoneFailed}
+use Rattle.agcode_top.specs.Statuses.{is_streamed, reads_input, tells_report, TellsMore, has_text, reads_ahead}
 use Rattle.agcode_top.specs.Statuses.{IsAnswer, IsOwn, IsRead, IsEarly}
 use Rattle.agcode_top.specs.Lines.{line_of}
 use Rattle.agcode_top.specs.Erase.{IsFillable}
@@ -124,7 +125,7 @@ pub record ReadAs (c : Call) (status : Status) : Type 0 where
   pub told :
       let form = plain_form parts in
       let told = lines form c.input.before.left ++ done form c.input.before.left in
-      EndsText (once_given c.report told) (line_of status)
+      GivesOrFails (once_given c.report told) (line_of status)
 
 abbrev pub ReadsText : Call → Status → Type 0
 ReadsText c status = IsRead status → IsTrue c.desc.tells → IsTrue c.input.tells → ReadAs c status
@@ -220,16 +221,16 @@ Yields command said OutFault = has_text said ≡ true
 Yields command said ReportFault = tells_report command ≡ true
 Yields command said _ = ⊥
 
-abbrev pub IsLike : Status → Status → Type 0
-IsLike said status =
+abbrev pub IsLike : (most : ℕ) → SourceCall → (said status : Status) → Type 0
+IsLike most input said status =
     (status ≡ said)
-    ⊎ ((line other : ℕ) × (said ≡ TableRefused line) × (status ≡ TableRefused other))
-    ⊎ ((taken other : ℕ) × (said ≡ TooLong taken) × (status ≡ TooLong other))
+    ⊎ ((taken other : ℕ) × (said ≡ TooLong taken) × (status ≡ TooLong other) × PassesAt most input (TooLong other))
 
 abbrev pub AnswersExactly : Words → Call → Status → Type 0
 AnswersExactly asked c status = OfText asked c (
     (p : Parts) (said : Status) (text told : List ℕ) → Accepts asked.command c.desc.before.left p →
-    Says asked asked.command p c.input.before.left said text told → IsLike said status ⊎ Yields asked.command said status)
+    Says asked asked.command p c.input.before.left said text told →
+    IsLike (most_taken asked.command p) c.input said status ⊎ Yields asked.command said status)
 
 pub record EncodedOver (c : Call) (status : Status) : Type 0 where
   pub parts : Parts
@@ -286,6 +287,9 @@ pub record LeavesUntouched (c : Call) (status : Status) : Type 0 where
   pub desc : status ≡ Usage → IsUntaken c.desc
   pub input : IsEarly status → IsUntaken c.input
   pub out : IsEarly status ⊎ (status ≡ NoMemory) → IsUngiven c.out
+  pub desc_well : status ≡ Usage → ReadsWell c.desc
+  pub input_well : IsEarly status → ReadsWell c.input
+  pub out_well : IsEarly status ⊎ (status ≡ NoMemory) → WritesWell c.out
 
 abbrev pub LeavesUnread : Command → SourceCall → Status → Type 0
 LeavesUnread command input status = is_streamed command ≡ true → status ≡ NoMemory → IsUntaken input
@@ -301,8 +305,8 @@ abbrev pub TellsNumber : SourceCall → Status → Type 0
 TellsNumber input status =
     (taken : ℕ) → (status ≡ TooLong taken) ⊎ (status ≡ WordLength taken) → TakesJust taken input
 
-pub record KeepsCounts (c : Call) (status : Status) : Type 0 where
+pub record KeepsCounts (command : Command) (c : Call) (status : Status) : Type 0 where
   pub desc : (status ≡ DescFault → ⊥) → ReadsWell c.desc
-  pub input : (status ≡ InputFault → ⊥) → is_passing status ≡ false → ReadsWell c.input
+  pub input : (status ≡ InputFault → ⊥) → reads_ahead command status ≡ false → ReadsWell c.input
   pub out : (status ≡ OutFault → ⊥) → WritesWell c.out
   pub report : (status ≡ ReportFault → ⊥) → line_of status ≡ [] → WritesWell c.report

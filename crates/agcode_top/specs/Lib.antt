@@ -11,3 +11,4 @@ pub mod Steps
 pub mod Leaves
 pub mod Erase
 pub mod Filled
+pub mod Pieces

@@ -7,6 +7,8 @@
 -- TellsMore      .. and with this status has done so
 -- has_text       whether a command that ends with a status by its own work has written a text on out
 -- is_passing     whether a status says that the input passes a limit
+-- is_ahead       .. or comes while more of an encoded text, or of a file to encode, is being taken
+-- reads_ahead    whether a command that ends so may have tried to take bytes behind those that it speaks of
 -- CanSay         the statuses that a command ends with by its own work
 -- CanStop        the statuses of what stops a command
 -- CanEnd         all statuses that a command can end with
@@ -14,7 +16,7 @@
 -- IsRead         a status of a reading
 -- IsEarly        a status before which nothing of the input was taken
 -- IsQuiet        a status after which a command that writes one text has given nothing on out
-use Rattle.std.specs.Prelude.{◌≡◌, ℕ, List, Bool, true, false, ◌⊎◌}
+use Rattle.std.specs.Prelude.{◌≡◌, ℕ, List, Bool, true, false, ◌⊎◌, if◌then◌else◌}
 use Rattle.command_words.specs.declared.words.Command.{Command}
 use Rattle.command_words.specs.declared.words.Command.TheVariants.{Member, Points, Params, Bound, Check}
 use Rattle.command_words.specs.declared.words.Command.TheVariants.{Encode, Decode, Votes, Trial, Erase, Design}
@@ -73,6 +75,16 @@ has_text _ = false
 abbrev pub is_passing : Status → Bool
 is_passing (TooLong taken) = true
 is_passing _ = false
+
+abbrev pub is_ahead : Status → Bool
+is_ahead (TooLong taken) = true
+is_ahead (Beyond group word) = true
+is_ahead OutFault = true
+is_ahead ReportFault = true
+is_ahead _ = false
+
+abbrev pub reads_ahead : Command → Status → Bool
+reads_ahead command status = if is_streamed command then is_ahead status else is_passing status
 
 abbrev pub CanSay : Status → Command → Type 0
 CanSay Done command = Unit {0}

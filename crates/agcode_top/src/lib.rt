@@ -15,6 +15,7 @@ mod member;
 mod needs;
 mod obey;
 mod params;
+mod pieces;
 mod points;
 mod report;
 mod serve;
@@ -27,5 +28,6 @@ mod votes;
 mod word;
 
 pub use limit::MOST_TABLE;
+pub use pieces::pieces_do_not_count;
 pub use status::Status;
 pub use top::run;

@@ -125,8 +125,7 @@ pub fn run<X: Threads + Sync, D: Source, I: Source, O: Sink, R: Sink, G: Gate>(
     ensures number { TellsNumber (source_call I.Source input.old input.new) result }
 
     // A call that fails ends the command.
-    ensures kept { OnWords (map string_bytes words.now) (λ w.
-        is_streamed w.command ≡ false → KeepsCounts (call
+    ensures kept { OnWords (map string_bytes words.now) (λ w. KeepsCounts w.command (call
         D.Source desc.old desc.new I.Source input.old input.new
         O.Sink out.old out.new R.Sink report.old report.new) result) }
 

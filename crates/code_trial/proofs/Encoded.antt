@@ -4,7 +4,7 @@ use Rattle.ag_io.specs.Counts.{Rose}
 use Rattle.stored_form.specs.Form.{IsSound}
 use Rattle.stored_form.specs.Frame.{image}
 use Rattle.ag_io.specs.Views.{GaveFront}
-use Rattle.stream_codec.specs.Encoded.{Encode, EncodedAs}
+use Rattle.stream_codec.specs.Encoded.{Encode, stored, EncodedAs}
 use Rattle.stream_codec.specs.declared.encode.EncodeFault.{EncodeFault}
 use Rattle.stream_codec.specs.declared.encode.EncodeFault.TheVariants.{InputFault, OutFault, TooLong}
 use Rattle.code_trial.proofs.Bounds.{image_front}
@@ -33,13 +33,15 @@ pub record IsStored (e : Encode) : Type 0 where
   pub room : length (image e.form e.source.left) < e.out.sure
 
 pub encode_sure : (e : Encode) (fault : EncodeFault) → EncodedAs e (Err fault) → IsStored e → ⊥
-encode_sure e InputFault enc m = never_rose (rw (m.source_before, m.source_after) at enc.fault)
-encode_sure e (TooLong taken) enc m =
-    let (x, p) = enc.told m.source_tells in
+encode_sure e InputFault enc m = never_rose (rw (m.source_before, m.source_after) at enc.fault.1)
+encode_sure e (TooLong count) enc m =
+    let x = stored e in
+    let p = enc.told m.source_tells in
     let parts : length e.source.left ≡ length x + length e.source_after.left = ap length p.left ∙ length-append x e.source_after.left in
-    omega (arith, p.passes, m.short)
+    omega (arith, p.count_is, p.passes, m.short)
 encode_sure e OutFault enc m =
-    let (x, w) = enc.told m.source_tells in
+    let x = stored e in
+    let w = enc.told m.source_tells in
     let parts : length e.source.left ≡ length x + length e.source_after.left = ap length w.left ∙ length-append x e.source_after.left in
     let part : length e.out_after.given ≤ length (image e.form x) =
     part_short e.out_after.given (image e.form x) (subst (λ (b : List ℕ). GaveFront b e.out_after.given (image e.form x)) m.given (w.out m.out_tells)) in

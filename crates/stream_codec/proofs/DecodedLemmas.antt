@@ -21,10 +21,10 @@ use Rattle.stored_form.proofs.DecoderLemmas.{corrected-append}
 use Rattle.stored_form.proofs.StreamLemmas.{blocks-append, reading_beyond_at}
 use Rattle.stored_form.proofs.SalvageLemmas.{all_near_from_count, reading_none_lost, out_none_lost}
 use Rattle.stream_codec.specs.Dealing.{LostAt, TextAnswered}
-use Rattle.stream_codec.specs.Decoding.{Decode, sinks_in, taken, groups_within, read_bytes, answer_by, answer_to, PassesLimit, Refuses, ReadsFile, ToldAs, FaultAs, SinksSteady, IsSteady, TakesMost, DecodedAs, IsComplete}
+use Rattle.stream_codec.specs.Decoding.{Decode, sinks_in, taken, groups_within, read_bytes, answer_by, answer_to, PassesLimit, Refuses, ReadsFile, ToldAs, FaultAs, SinksSteady, TakesMost, DecodedAs, IsComplete}
 use Rattle.stream_codec.specs.Report.{changes_to, lines_of, lines, done_at, report_of, sure_bytes, counts_of}
 use Rattle.stream_codec.specs.Salvaging.{told_lines, whole_bytes, plain}
-use Rattle.stream_codec.specs.Taking.{taken_past}
+use Rattle.stream_codec.specs.Taking.{IsSteady, taken_past}
 use Rattle.stream_codec.specs.declared.decode.DecodeCounts.{DecodeCounts}
 use Rattle.stream_codec.specs.declared.decode.DecodeFault.{DecodeFault}
 use Rattle.stream_codec.specs.declared.decode.DecodeFault.TheVariants.{InputFault, OutFault, ReportFault, TooLong, Beyond, Ragged, Framing}

@@ -11,14 +11,14 @@ use Rattle.stored_form.specs.Frame.{group_bytes}
 use Rattle.stored_form.specs.Salvage.{lost_count}
 use Rattle.stored_form.proofs.FrameLemmas.{group_bytes_above_0}
 use Rattle.stream_codec.specs.Dealing.{NoneLost, Dealt, TextStopped, TextEnded, answered, out_stopped, report_stopped}
-use Rattle.stream_codec.specs.Decoding.{Decode, sinks_in, IsSteady}
+use Rattle.stream_codec.specs.Decoding.{Decode, sinks_in}
 use Rattle.stream_codec.specs.Running.{MayDecode, RunAs}
 use Rattle.stream_codec.specs.Salvaging.{whole_bytes, told_lines, salvage_report}
 use Rattle.stream_codec.specs.Report.{sure_bytes, report_of}
 use Rattle.stream_codec.specs.Sinks.{Sinks}
 use Rattle.stream_codec.specs.Windows.{CutShort}
 use Rattle.stream_codec.proofs.EndLemmas.{rest_blocks}
-use Rattle.stream_codec.specs.Taking.{taken_past}
+use Rattle.stream_codec.specs.Taking.{IsSteady, taken_past}
 use Rattle.stream_codec.specs.declared.deal.Tally.{Tally}
 use Rattle.stream_codec.specs.declared.deal.WhenLost.{WhenLost}
 use Rattle.stream_codec.specs.declared.deal.WhenLost.TheVariants.{Stop, Keep}

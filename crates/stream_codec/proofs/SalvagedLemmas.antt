@@ -13,10 +13,10 @@ use Rattle.stored_form.specs.Reading.{group_count, corrected}
 use Rattle.stored_form.specs.Salvage.{lines_of_blocks, lines_to, salvage_out}
 use Rattle.stored_form.proofs.SalvageLemmas.{lines_to-append, lines_to-all}
 use Rattle.stream_codec.specs.Dealing.{TextAnswered}
-use Rattle.stream_codec.specs.Decoding.{Decode, sinks_in, taken, groups_within, FaultAs, SinksSteady, IsSteady}
+use Rattle.stream_codec.specs.Decoding.{Decode, sinks_in, taken, groups_within, FaultAs, SinksSteady}
 use Rattle.stream_codec.specs.Report.{text_of}
 use Rattle.stream_codec.specs.Salvaging.{answer_at, salvage_counts, salvage_answer, salvage_answer_to, told_lines, salvage_report, whole_bytes, SalvagesText, SalvagedToldAs, SalvagedAs, IsSalvaged}
-use Rattle.stream_codec.specs.Taking.{taken_past}
+use Rattle.stream_codec.specs.Taking.{IsSteady, taken_past}
 use Rattle.stream_codec.specs.declared.decode.DecodeFault.{DecodeFault}
 use Rattle.stream_codec.specs.declared.decode.DecodeFault.TheVariants.{InputFault, OutFault, ReportFault, TooLong, Beyond, Ragged, Framing}
 use Rattle.stream_codec.specs.declared.salvage.SalvageCounts.{SalvageCounts}

@@ -9,12 +9,21 @@ use Rattle.stored_form.specs.Form.{IsSound}
 use Rattle.stored_form.specs.Frame.{group_bytes}
 use Rattle.stored_form.proofs.FrameLemmas.{group_bytes_above_0}
 use Rattle.stream_codec.specs.Decoding.{Decode, taken, TakesMost}
-use Rattle.stream_codec.specs.Taking.{WereTaken, most_taken, taken_past}
+use Rattle.stream_codec.specs.Taking.{taken_from, WereTaken, most_taken, taken_past}
 use Rattle.stream_codec.specs.Windows.{TailSays, WindowFilled}
 use Rattle.stream_codec.specs.Slots.{SlotState}
 use Rattle.stream_codec.specs.declared.window.Filling.{Filling}
 use Rattle.stream_codec.specs.declared.window.Tail.{Tail}
 use Rattle.stream_codec.specs.declared.window.Tail.TheVariants.{More, End, Fault, TooLong}
+
+-- ---- the bytes at the front
+pub front_taken : (before after : SourceView) (x : List ℕ) → before.left ≡ x ++ after.left → taken_from before after ≡ x
+front_taken before after x e =
+    let long : length before.left - length after.left ≡ length x = omega (arith, ap length e, length-append x after.left) in
+    ap₂ (λ n l. take n l) long e ∙ take_at x after.left (length x) (let h : length x ≡ length x = omega arith in h)
+
+pub front_were_taken : (before after : SourceView) (x : List ℕ) → before.left ≡ x ++ after.left → WereTaken before after
+front_were_taken before after x e = e ∙ ap (λ l. l ++ after.left) (sym (front_taken before after x e))
 
 -- the whole groups z were taken, and the bytes p after them
 pub record Taken (d : Decode) (z p : List ℕ) : Type 0 where
@@ -29,13 +38,10 @@ pub left_is : (d : Decode) (z p : List ℕ) → Taken d z p → IsTrue d.source_
 left_is d z p k t = k.left t ∙ sym (append_assoc z p d.source_after.left)
 
 pub taken_is : (d : Decode) (z p : List ℕ) → Taken d z p → IsTrue d.source_tells → taken d ≡ z ++ p
-taken_is d z p k t =
-    let e = left_is d z p k t in
-    let long : length d.source.left - length d.source_after.left ≡ length (z ++ p) = omega (arith, ap length e, length-append (z ++ p) d.source_after.left) in
-    ap₂ (λ n l. take n l) long e ∙ take_at (z ++ p) d.source_after.left (length (z ++ p)) (let h : length (z ++ p) ≡ length (z ++ p) = omega arith in h)
+taken_is d z p k t = front_taken d.source d.source_after (z ++ p) (left_is d z p k t)
 
 pub were_taken : (d : Decode) (z p : List ℕ) → Taken d z p → IsTrue d.source_tells → WereTaken d.source d.source_after
-were_taken d z p k t = left_is d z p k t ∙ ap (λ l. l ++ d.source_after.left) (sym (taken_is d z p k t))
+were_taken d z p k t = front_were_taken d.source d.source_after (z ++ p) (left_is d z p k t)
 
 -- groups within a limit, and one more
 few_groups : (n limit size z p : ℕ) → 0 < size → z ≡ n * size → z ≤ limit → p ≤ size → z + p ≤ most_taken size limit
@@ -49,6 +55,12 @@ takes_most d z p sound k t =
     let h = few_groups k.groups d.limit (group_bytes d.form) (length z) (length p) (group_bytes_above_0 d.form sound) k.whole k.within k.short in
     omega (arith, ap length (taken_is d z p k t), length-append z p)
 
+pub least_right : (a b c : ℕ) → c ≡ b → c ≤ a → c ≡ min a b
+least_right a b c e h = omega arith
+
+pub least_left : (a b c : ℕ) → c ≡ a → c ≤ b → c ≡ min a b
+least_left a b c e h = omega arith
+
 -- past the limit as many are taken as pieces make
 pub exactly : (n limit size z p all : ℕ) → 0 < size → z ≡ n * size → z ≤ limit → limit < z + p → p ≤ size → z + p ≤ all → ((p ≡ size) ⊎ (z + p ≡ all)) → z + p ≡ taken_past size limit all
 exactly n limit size z p all some whole within over short inside (inl full) =
@@ -56,16 +68,10 @@ exactly n limit size z p all some whole within over short inside (inl full) =
     let limit_is : limit ≡ n * size + over_by = omega arith in
     let count : limit / size ≡ n = ap (λ l. l / size) limit_is ∙ div-mul-add n size over_by (omega arith) in
     let most : most_taken size limit ≡ (n + 1) * size = ap (λ m. (m + 1) * size) count in
-    min_right all (most_taken size limit) (z + p) (omega arith) (omega arith)
-  where
-    min_right : (a b c : ℕ) → c ≡ b → c ≤ a → c ≡ min a b
-    min_right a b c e h = omega arith
+    least_right all (most_taken size limit) (z + p) (omega arith) (omega arith)
 exactly n limit size z p all some whole within over short inside (inr spent) =
     let h = few_groups n limit size z p some whole within short in
-    min_left all (most_taken size limit) (z + p) spent h
-  where
-    min_left : (a b c : ℕ) → c ≡ a → c ≤ b → c ≡ min a b
-    min_left a b c e h = omega arith
+    least_left all (most_taken size limit) (z + p) spent h
 
 -- the bytes after the whole groups are no more than a group
 tail_short : (l : Layout) (tells : Bool) (before after : SourceView) (limit groups total : ℕ) (p : List ℕ) (tail : Tail) → TailSays l tells before after limit groups total p tail → length p ≤ bytes_in_group l

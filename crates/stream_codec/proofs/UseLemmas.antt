@@ -1,5 +1,5 @@
 -- What an encoder took and wrote, piece by piece.
-use Rattle.std.proofs.Common.{ℕ, ◌+◌, ◌*◌, ◌/◌, ◌%◌, ◌<◌, ◌≤◌, ◌≡◌, Bool, false, List, [], ◌++◌, length, Result, Ok, Err, subst, refl, sym, ap, ap₂, ◌∙◌, arith, append_assoc, length-append}
+use Rattle.std.proofs.Common.{ℕ, ◌+◌, ◌*◌, ◌/◌, ◌%◌, ◌<◌, ◌≤◌, ◌≡◌, Bool, false, List, [], ◌++◌, length, Result, Ok, Err, ◌⊎◌, inl, inr, subst, refl, sym, ap, ap₂, ◌∙◌, arith, append_assoc, length-append}
 use Rattle.std.proofs.lemmas.List.{append-nil, take_at}
 use Rattle.std.proofs.lemmas.List.Concat.{flat_map-append}
 use Rattle.ag_io.specs.Counts.{Rose}
@@ -16,6 +16,7 @@ use Rattle.stream_codec.specs.Layouts.{in_groups}
 use Rattle.stream_codec.specs.declared.encode.EncodeCounts.{EncodeCounts}
 use Rattle.stream_codec.specs.Groups.{full_groups, full_count, bits_left, last_group, closed_groups, Pushed}
 use Rattle.stream_codec.specs.Encoded.{encode_of, within}
+use Rattle.stream_codec.specs.Taking.{IsSteady}
 use Rattle.stream_codec.specs.Encoding.{Used, Ended, EndFault, EncodeOutcome}
 use Rattle.stream_codec.specs.declared.encode.EncodeFault.TheVariants.{InputFault, OutFault, TooLong}
 use Rattle.stream_codec.specs.declared.encode.EncodeFault.{EncodeFault}
@@ -61,11 +62,16 @@ pub within_is : (limit taken : ℕ) (x last : List ℕ) → taken ≡ length x �
 within_is limit taken x last long even low high = take_at x last (limit / 4096 * 4096) (let h : length x ≡ limit / 4096 * 4096 = omega arith in h)
 
 -- ---- where the pieces go no further
-pub passes_outcome : {G : Form} {limit : ℕ} {st ot : Bool} {s0 s1 : SourceView} {o0 o1 : SinkView} {x : List ℕ} {w : List Bool} {taken groups : ℕ} (last : List ℕ) (total : ℕ) → Used (encode_of G limit st s0 s1 ot o0 o1) x last w taken groups → taken % 4096 ≡ 0 → taken ≤ limit → length last ≤ 4096 → total ≡ taken + length last → limit < total → EncodeOutcome (encode_of G limit st s0 s1 ot o0 o1) (x ++ last) (Err (TooLong total))
-passes_outcome {G} {limit} {st} {ot} {s0} {s1} {o0} {o1} {x} {w} {taken} {groups} last total used even below few sum above = record {
+pub passes_outcome : {G : Form} {limit : ℕ} {st ot : Bool} {s0 s1 : SourceView} {o0 o1 : SinkView} {x : List ℕ} {w : List Bool} {taken groups : ℕ} (last : List ℕ) (total : ℕ) → Used (encode_of G limit st s0 s1 ot o0 o1) x last w taken groups → taken % 4096 ≡ 0 → taken ≤ limit → length last ≤ 4096 → total ≡ taken + length last → limit < total → ((length last ≡ 4096) ⊎ (IsSpent st s1 ⊎ Rose s0.faults s1.faults)) → EncodeOutcome (encode_of G limit st s0 s1 ot o0 o1) (x ++ last) (Err (TooLong total))
+passes_outcome {G} {limit} {st} {ot} {s0} {s1} {o0} {o1} {x} {w} {taken} {groups} last total used even below few sum above cut = record {
   left = used.left;
   ended = tt;
-  numbers = (omega (arith, length-append x last, used.taken_is), omega (arith, length-append x last, used.taken_is), omega (arith, length-append x last, used.taken_is));
+  numbers = (
+    omega (arith, length-append x last, used.taken_is),
+    omega (arith, length-append x last, used.taken_is),
+    omega (arith, length-append x last, used.taken_is),
+    elim cut [ inl full ↦ inl (omega (arith, length-append x last, used.taken_is)) | inr more ↦ inr more ],
+  );
   gave = rw (within_is limit taken x last used.taken_is even below (omega arith)) used.wrote;
   faulted = tt;
 }
@@ -92,8 +98,8 @@ closed_after G bits more w some left =
     ap₂ (λ a b. a ++ group_of G (last_group G b)) step.groups step.left
     ∙ append_assoc (full_groups G bits) (full_groups G (w ++ more)) (group_of G (last_group G (bits_left G (w ++ more))))
 
-pub ended_outcome : {G : Form} {limit : ℕ} {st ot ended : Bool} {s0 s1 : SourceView} {o0 o1 o2 : SinkView} {x : List ℕ} {w : List Bool} {taken groups more : ℕ} (last : List ℕ) (total : ℕ) → IsSound G → Used (encode_of G limit st s0 s1 ot o0 o1) x last w taken groups → total ≡ taken + length last → total ≤ limit → IsSpent st s1 → Ended G ot o1 o2 (w ++ bits_of_symbols 8 last) ended more → EncodeOutcome (encode_of G limit st s0 s1 ot o0 o2) (x ++ last) (Ok (record { taken = total; groups = groups + more }))
-ended_outcome {G} {limit} {st} {ot} {ended} {s0} {s1} {o0} {o1} {o2} {x} {w} {taken} {groups} {more} last total sound used sum below none end =
+pub ended_outcome : {G : Form} {limit : ℕ} {st ot ended : Bool} {s0 s1 : SourceView} {o0 o1 o2 : SinkView} {x : List ℕ} {w : List Bool} {taken groups more : ℕ} (last : List ℕ) (total : ℕ) → IsSound G → Used (encode_of G limit st s0 s1 ot o0 o1) x last w taken groups → total ≡ taken + length last → total ≤ limit → IsSpent st s1 → IsSteady s0.faults s1.faults → Ended G ot o1 o2 (w ++ bits_of_symbols 8 last) ended more → EncodeOutcome (encode_of G limit st s0 s1 ot o0 o2) (x ++ last) (Ok (record { taken = total; groups = groups + more }))
+ended_outcome {G} {limit} {st} {ot} {ended} {s0} {s1} {o0} {o1} {o2} {x} {w} {taken} {groups} {more} last total sound used sum below none steady end =
     let some = group_bits_above_0 G sound in
     let b = bits_of_symbols 8 x in
     let m = bits_of_symbols 8 last in
@@ -105,7 +111,7 @@ ended_outcome {G} {limit} {st} {ot} {ended} {s0} {s1} {o0} {o1} {o2} {x} {w} {ta
       ended = none;
       numbers = (omega (arith, length-append x last, used.taken_is), omega (arith, length-append x last, used.taken_is), ap (λ n. n * group_bytes G) count ∙ image_count G (x ++ last) sound);
       gave = wrote_more (image G (x ++ last)) used.wrote end.wrote (image_is G (x ++ last) sound ∙ ap (closed_groups G) split ∙ closed_after G b m w some used.waiting_are);
-      faulted = tt;
+      faulted = steady;
     }
 
 pub unended_outcome : {G : Form} {limit : ℕ} {st ot ended : Bool} {s0 s1 : SourceView} {o0 o1 o2 : SinkView} {x : List ℕ} {w : List Bool} {taken groups : ℕ} (last : List ℕ) (fault : EncodeFault) → IsSound G → Used (encode_of G limit st s0 s1 ot o0 o1) x last w taken groups → taken + length last ≤ limit → (ended ≡ false → Rose s0.faults s1.faults) → EndFault G ot o1 o2 (w ++ bits_of_symbols 8 last) ended fault → EncodeOutcome (encode_of G limit st s0 s1 ot o0 o2) (x ++ last) (Err fault)

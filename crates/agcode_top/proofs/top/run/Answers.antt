@@ -35,7 +35,7 @@ pub returns-clause-repair : goal.returns-clause-repair
 returns-clause-repair g c = run-repair _ _ _ (g.R.Sink.view c.tell.new.report) c.obey-status.ensures.leaves c.obey-status.ensures.report_counted c.tell.ensures.counted c.tell.ensures.given
 
 pub returns-clause-reading : goal.returns-clause-reading
-returns-clause-reading g c = run-reading _ _ _ (g.R.Sink.view c.tell.new.report) c.obey-status.ensures.leaves c.obey-status.ensures.report_counted c.tell.ensures.given
+returns-clause-reading g c = run-reading _ _ _ (g.R.Sink.view c.tell.new.report) c.obey-status.ensures.leaves c.tell.ensures.given
 
 pub returns-clause-complete : goal.returns-clause-complete
 returns-clause-complete g c = run-complete _ _ _ (g.R.Sink.view c.tell.new.report) c.obey-status.ensures.leaves c.obey-status.ensures.report_counted c.tell.ensures.counted

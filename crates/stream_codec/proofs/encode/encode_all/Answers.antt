@@ -1,4 +1,5 @@
-use Rattle.std.proofs.Common.{◌≡◌, ◌<◌, ◌++◌, length, take, length-append, length-take-le, ap, arith}
+use Rattle.std.proofs.Common.{◌≡◌, ◌<◌, ◌++◌, length, take, length-append, length-take-le, ap, inl, inr, arith}
+use Rattle.std.proofs.lemmas.Bool.{cases_Bool}
 use Rattle.std.proofs.lemmas.Result.{err_from_is_err_and}
 use Rattle.stored_form.specs.Bits.{bits_of_symbols}
 use Rattle.stored_form.proofs.BitsLemmas.{length-bits_of_symbols}
@@ -13,7 +14,7 @@ returns-then-taken-limit-clause-outcome g c =
     let (x, stop) = c.in_ok-stop.ensures.stopped in
     let last = take c.in_ok-stop.stop.got c.take_pieces.new.piece in
     let long : length last ≡ c.in_ok-stop.stop.got = length-take-le c.in_ok-stop.stop.got c.take_pieces.new.piece (omega (arith, stop.part, c.take_pieces.auto.piece)) in
-    (x ++ last, passes_outcome last _ stop.used stop.even stop.below (omega (arith, stop.part)) (omega arith) c.if-taken-limit.true)
+    (x ++ last, passes_outcome last _ stop.used stop.even stop.below (omega (arith, stop.part)) (omega arith) c.if-taken-limit.true (inr (elim (cases_Bool c.in_ok-stop.stop.ended) [ inl ended ↦ inl (stop.ended ended) | inr failed ↦ inr (stop.failed failed) ])))
 
 pub returns-in_err-more-clause-outcome : goal.returns-in_err-more-clause-outcome
 returns-in_err-more-clause-outcome g c =
@@ -47,4 +48,4 @@ returns-clause-outcome g c =
     let last = take c.in_ok-stop.stop.got c.take_pieces.new.piece in
     let long : length last ≡ c.in_ok-stop.stop.got = length-take-le c.in_ok-stop.stop.got c.take_pieces.new.piece (omega (arith, stop.part, c.take_pieces.auto.piece)) in
     let end = ended_at F c.take_pieces.new.writer.layout l c.in_ok-more.ensures.ended c.take_pieces.ensures.layout in
-    (x ++ last, ended_outcome last _ (fits_sound F l c.requires.fits) stop.used (omega arith) c.if-taken-limit.false (stop.ended end.is_end) end)
+    (x ++ last, ended_outcome last _ (fits_sound F l c.requires.fits) stop.used (omega arith) c.if-taken-limit.false (stop.ended end.is_end) (stop.steady end.is_end) end)
