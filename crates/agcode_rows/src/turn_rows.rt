@@ -19,6 +19,15 @@ const PARAMS: &[u8] =
 
 const VOTES: &[u8] = b"6 5 5 0\n7 6 6 0\n9 8 8 0\n";
 
+const TRIAL: &[u8] = b"bytes 3\ncodewords 5\nchanged 3\ncorrected 3\nequal yes\n";
+
+const PLANS: &[u8] =
+    b"want 1\norder weight 3 checks 3 bound 3\nstop 3 2\nimproved 3 checks 3 bound 3\nmust 0:1 2:2 3:2\n";
+
+const FOUR_LOST: [u8; 16] = [0, 0, 0, 0, 3, 1, 2, 0, 1, 1, 1, 1, 0, 0, 0, 0];
+
+const FILLED: &[u8] = b"filled 0 02\nfilled 1 00\nfilled 2 00\nfilled 3 02\ndone filled 4\n";
+
 // What is read or written.
 #[derive(Clone, Copy)]
 enum Object {
@@ -106,6 +115,52 @@ fn commands_that_write_one_text(rt: HostRuntime) -> Result<(), Fail> {
     };
     assert!(rt; each_stops(&rt, alloc, &check, Object::Input, 2)?);
     assert!(rt; each_stops(&rt, alloc, &check, Object::Out, 1)?);
+    Ok(())
+}
+
+#[test]
+fn trial_and_design_read_no_input(rt: HostRuntime) -> Result<(), Fail> {
+    let alloc = rt.alloc();
+    let rows = [
+        done("trial --seed=7 --bytes 3 D", HERMITIAN_4, &[], TRIAL),
+        done("design D", HERMITIAN_4, &[], PLANS),
+    ];
+    for row in rows {
+        assert!(rt; each_stops(&rt, alloc, &row, Object::Desc, 2)?);
+        assert!(rt; each_stops(&rt, alloc, &row, Object::Input, 0)?);
+        assert!(rt; each_stops(&rt, alloc, &row, Object::Out, 1)?);
+    }
+    Ok(())
+}
+
+// The word is on out before its positions are told.
+#[test]
+fn erase_stops_at_each_call(rt: HostRuntime) -> Result<(), Fail> {
+    let alloc = rt.alloc();
+    let row = Row {
+        report: FILLED,
+        ..done("erase D", HERMITIAN_4, &FOUR_LOST, &EMPTY)
+    };
+    assert!(rt; each_stops(&rt, alloc, &row, Object::Desc, 2)?);
+    // sixteen bytes are read by threes, and then the end
+    assert!(rt; each_stops(&rt, alloc, &row, Object::Input, 7)?);
+    assert!(rt; each_stops(&rt, alloc, &row, Object::Out, 1)?);
+    let tells = |fails| Ends {
+        report_fails: fails,
+        ..WORKING
+    };
+    let untold = Row {
+        ends: tells(&[0]),
+        status: Status::ReportFault,
+        report: &[],
+        ..row
+    };
+    let told = Row {
+        ends: tells(&[1]),
+        ..row
+    };
+    assert!(rt; is_met(&rt, alloc, &untold)?);
+    assert!(rt; is_met(&rt, alloc, &told)?);
     Ok(())
 }
 
