@@ -68,16 +68,16 @@ module _ (size n : ℕ) (entries : List Entry) (c : Entries) (cols : AreColumns 
   duals_small = subst (λ (z : List ℕ). All (λ x. x < size) z) (sym cols.duals_are) (small_duals size entries (λ k d l. (forms k d l).symbols))
 
   module _ (k : ℕ) (l : k < n) where
-    label_is : slice_index c.labels.items k ≡ (entry_at entries k).label
+    pub label_is : slice_index c.labels.items k ≡ (entry_at entries k).label
     label_is = ap (λ (z : List ℕ). get_or z k 0) cols.labels_are ∙ get_or-map (λ (e : Entry). e.label) entries k _ 0 (omega arith)
 
-    pairs_is : slice_index c.pairs.items k ≡ (entry_at entries k).pairs
+    pub pairs_is : slice_index c.pairs.items k ≡ (entry_at entries k).pairs
     pairs_is = ap (λ (z : List ℕ). get_or z k 0) cols.pairs_are ∙ get_or-map (λ (e : Entry). e.pairs) entries k _ 0 (omega arith)
 
-    mark_is : marked c.marks.items k ≡ (entry_at entries k).mark
+    pub mark_is : marked c.marks.items k ≡ (entry_at entries k).mark
     mark_is = ap (λ (z : List Bool). get_or z k false) cols.marks_are ∙ get_or-map (λ (e : Entry). e.mark) entries k _ false (omega arith)
 
-    dual_is : slice_range c.duals.items (k * n) (k * n + n) ≡ (entry_at entries k).dual
+    pub dual_is : slice_range c.duals.items (k * n) (k * n + n) ≡ (entry_at entries k).dual
     dual_is = ap (λ (z : List ℕ). slice_range z (k * n) (k * n + n)) cols.duals_are
         ∙ ap (λ (i : ℕ). take i (drop (k * n) (flat_map (λ (e : Entry). e.dual) entries))) (let z : k * n + n - k * n ≡ n = omega arith in z)
         ∙ dual_row n k entries _ duals_long (omega arith)
@@ -120,7 +120,7 @@ module _ (size n : ℕ) (entries : List Entry) (c : Entries) (cols : AreColumns 
     pub n_indices : length indices ≡ n
     n_indices = at.long ∙ n_labels
 
-    index_at : (k : ℕ) → k < n → IsIndexOf functions.labels.items (slice_index c.labels.items k) (slice_index indices k)
+    pub index_at : (k : ℕ) → k < n → IsIndexOf functions.labels.items (slice_index c.labels.items k) (slice_index indices k)
     index_at k l = at.each k (omega (arith, n_labels))
 
     label_same : (i j : ℕ) → i < d.count → j < d.count → d.label i ≡ d.label j → i ≡ j

@@ -10,3 +10,5 @@ pub mod Verdicts
 pub mod Tables
 pub mod Once
 pub mod OneLine
+pub mod Looking
+pub mod Quick

@@ -23,10 +23,10 @@ form_refused d modulus points rule text size (Line line) e h = bad_form line (su
 
 module _ (d : Domain) (modulus : ℕ) (points : List Point) (rule : CheckRule) (text : List ℕ) (size checked bound : ℕ) (cols : Entries) (read : AreRead size (length points) text checked bound cols) (e_size : size ≡ 2 ^ d.bits)
     (functions : Functions) (are : AreFunctions d functions) (indices : List ℕ) (at : AreIndices functions.labels.items cols.labels.items indices) where
-  r : AreRead (2 ^ d.bits) (length points) text checked bound cols
+  pub r : AreRead (2 ^ d.bits) (length points) text checked bound cols
   r = subst (λ (s : ℕ). AreRead s (length points) text checked bound cols) e_size read
 
-  said : IsSaid (2 ^ d.bits) (length points) text checked bound r.entries
+  pub said : IsSaid (2 ^ d.bits) (length points) text checked bound r.entries
   said = record { lines = r.lines; n_entries = r.n_entries }
 
   pub n_lists : length cols.duals.items ≡ length indices * length indices
@@ -34,8 +34,11 @@ module _ (d : Domain) (modulus : ℕ) (points : List Point) (rule : CheckRule) (
       let e : length indices ≡ length points = n_indices (2 ^ d.bits) (length points) r.entries cols r.are_columns r.lines.forms r.n_entries d functions are indices at in
       n_duals (2 ^ d.bits) (length points) r.entries cols r.are_columns r.lines.forms r.n_entries ∙ ap (λ (x : ℕ). x * x) (sym e)
 
-  n_is : length indices ≡ length points
+  pub n_is : length indices ≡ length points
   n_is = n_indices (2 ^ d.bits) (length points) r.entries cols r.are_columns r.lines.forms r.n_entries d functions are indices at
+
+  pub n_duals_are : length cols.duals.items ≡ length points * length points
+  n_duals_are = n_duals (2 ^ d.bits) (length points) r.entries cols r.are_columns r.lines.forms r.n_entries
 
   pub lists_small : (bits : ℕ) → bits ≡ d.bits → All (λ x. x < 2 ^ bits) cols.duals.items
   lists_small bits e = subst (λ (b : ℕ). All (λ x. x < 2 ^ b) cols.duals.items) (sym e) (duals_small (2 ^ d.bits) (length points) r.entries cols r.are_columns r.lines.forms r.n_entries)

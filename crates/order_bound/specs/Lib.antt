@@ -5,3 +5,4 @@ pub mod Reading
 pub mod Checking
 pub mod TableChecks
 pub mod Refusals
+pub mod Looking

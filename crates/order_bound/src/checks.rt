@@ -131,7 +131,7 @@ pub fn first_bad_label<D: OrderDomain>(
 }
 
 /// The products of a list with all functions, whose values stand position by position.
-fn multiply<F: Field>(f: &F, list: &[u8], values: &[u8], products: &mut [u8])
+pub fn multiply<F: Field>(f: &F, list: &[u8], values: &[u8], products: &mut [u8])
     requires few { length list.now ≤ 1024 }
     requires fits { length values.now ≡ length list.now * length products.old }
     requires list { All (λ x. x < 2 ^ F.bits_of f.now) list.now }

@@ -7,6 +7,7 @@
 mod checks;
 mod distance;
 mod functions;
+mod members;
 mod pairs;
 mod reader;
 mod refusal;

@@ -1,18 +1,21 @@
 //! The check of a table.
 
-ghost use Rattle.std.specs.Prelude.{◌≡◌, ◌≤◌, ◌^◌, length, All, IfOk, IsTrue, MatchResult};
+ghost use Rattle.std.specs.Prelude.{◌≡◌, ◌*◌, ◌<◌, ◌≤◌, ◌^◌, length, All, IfOk, IsTrue, MatchResult};
+ghost use Rattle.gf_theory.specs.Field.{IsModulus};
 ghost use Rattle.order_theory.specs.Basis.{Basis, IsSoundBasis};
 ghost use Rattle.order_domain.specs.Domain.{ArePoints};
 ghost use Rattle.eval_basis.specs.Built.{IsBuilt};
 ghost use Rattle.eval_basis.specs.Rules.{checked_by};
 ghost use Rattle.order_bound.specs.Checking.{AreFunctions};
+ghost use Rattle.order_bound.specs.Looking.{IsTableBy};
 ghost use Rattle.order_bound.specs.Reading.{OnLine};
 ghost use Rattle.order_bound.specs.TableChecks.{IsAccepted, IsRefused, Says, SaysOfTable};
 
 use crate::checks::{end_of, first_bad_dual, first_bad_label, indices_of, is_good_head};
 use crate::functions::{Functions, functions_of, values_of};
-use crate::reader::{Stop, read_table};
-use eval_basis::CheckRule;
+use crate::members::{are_said, have_members};
+use crate::reader::{Said, Stop, read_table};
+use eval_basis::{CheckRule, tables_of};
 use gf_field::Field;
 use order_domain::{OrderDomain, Point, Points};
 use std::alloc::{AllocError, Global};
@@ -54,6 +57,38 @@ pub fn check_table<F: Field, D: OrderDomain>(
     }
 }
 
+/// Whether what a text says is so, by the tables of the members. It is for each table; where it is not, the checks of the
+/// lines one by one tell which fails.
+fn is_table<F: Field, D: OrderDomain>(
+    alloc: Global,
+    f: &F,
+    dom: &D,
+    points: &[Point],
+    rule: CheckRule,
+    said: &Said,
+    indices: &[u32],
+) -> Result<bool, AllocError>
+    requires bits { F.bits_of f.now ≡ (D.domain dom.now).bits }
+    requires few_points { length points.now ≤ 1024 }
+    requires points { ArePoints (D.domain dom.now) (F.modulus_of f.now) points.now }
+    requires lines { length indices.now ≡ length points.now }
+    requires pairs { length said.now.entries.pairs.items ≡ length indices.now }
+    requires marks { length said.now.entries.marks.items ≡ length indices.now }
+    requires fits { length said.now.entries.duals.items ≡ length points.now * length points.now }
+    requires symbols { All (λ x. x < 2 ^ F.bits_of f.now) said.now.entries.duals.items }
+    ensures { IfOk result (λ so. IsTrue so → IsTableBy (D.domain dom.now) (F.modulus_of f.now)
+        points.now rule said.now indices.now) }
+{
+    if !is_good_head(said) {
+        return Ok(false);
+    }
+    if !have_members(alloc, f, dom, points, indices, &said.entries.duals)? {
+        return Ok(false);
+    }
+    let tables = tables_of(alloc, f, dom, indices)?;
+    Ok(are_said(&said.entries, rule, &tables.labels, &tables.pair_counts))
+}
+
 /// The bound of a table that passes all checks.
 fn bound_of<F: Field, D: OrderDomain>(
     alloc: Global,
@@ -66,6 +101,7 @@ fn bound_of<F: Field, D: OrderDomain>(
 ) -> Result<u32, Stop>
     requires bits { F.bits_of f.now ≡ (D.domain dom.now).bits }
     requires functions { AreFunctions (D.domain dom.now) functions.now }
+    requires some_points { 1 ≤ length points.now }
     requires few_points { length points.now ≤ 1024 }
     requires points { ArePoints (D.domain dom.now) (F.modulus_of f.now) points.now }
     ensures { MatchResult result
@@ -78,6 +114,9 @@ fn bound_of<F: Field, D: OrderDomain>(
         Err(stop) => return Err(stop),
     };
     let indices = indices_of(alloc, &functions.labels, &said.entries.labels)?;
+    if is_table(alloc, f, dom, points, rule, &said, &indices)? {
+        return Ok(said.bound as u32);
+    }
     if let Some(k) = first_bad_label(dom, functions, rule, &said.entries, &indices) {
         return Err(Stop::Line(k + 3));
     }
@@ -97,6 +136,7 @@ fn bound_of<F: Field, D: OrderDomain>(
 fn symbol_count<F: Field>(f: &F) -> u64
     ensures count { result ≡ 2 ^ F.bits_of f.now }
     ensures few { result ≤ 256 }
+    ensures modulus { IsModulus (F.bits_of f.now) (F.modulus_of f.now) }
 {
     1 << f.bits()
 }
