@@ -1,12 +1,10 @@
 -- Packed symbols one by one: what is read, what a write changes, and what the loops over a group have done.
-use Rattle.std.proofs.Common.{ℕ, length-take, ◌+◌, ◌-◌, ◌*◌, ◌^◌, ◌<◌, ◌≤◌, ◌≡◌, ◌≢◌, Bool, true, false, List, [], ◌∷◌, ◌++◌, length, get_or, set, take, drop, replicate, All, sym, ap, ap₂, ◌∙◌, arith, inl, inr, ext_get_or, length-take-le, take-append-drop, drop-drop, append-nil, mul-le-mul_right, mul-pos, mod-eq_of_lt, zero-mul, take_all, length-drop}
+use Rattle.std.proofs.Common.{ℕ, length-take, ◌+◌, ◌*◌, ◌^◌, ◌<◌, ◌≤◌, ◌≡◌, ◌≢◌, Bool, true, false, List, [], ◌++◌, length, get_or, set, take, drop, replicate, All, sym, ap, ◌∙◌, arith, inl, inr, ext_get_or, length-take-le, drop-drop, append-nil, mul-le-mul_right, mod-eq_of_lt}
 use borrow.Rule.Slice.PartMut.{put_mid}
 use Rattle.std.proofs.lemmas.Slice.{take-put_mid, take-put_mid_below, drop-put_mid}
 use Rattle.std.proofs.lemmas.Bool.{cases_eq, cases_lt}
-use Rattle.std.proofs.lemmas.List.{get_or-map, get_or-set_same, get_or-set_other, length-set, take_at, drop_at, drop-take, take_more, drop-replicate, nil_from_length}
-use Rattle.std.proofs.lemmas.List.Concat.{flat_map-append}
+use Rattle.std.proofs.lemmas.List.{get_or-map, get_or-set_same, get_or-set_other, length-set, take_at, drop_at, drop-take}
 use Rattle.std.proofs.Math.Nat.{pow-le-pow_right}
-use Rattle.std.proofs.Math.Seq.{drop-append-add}
 use Rattle.stored_form.specs.Bits.{bits_of, number_of, pieces, bits_of_symbols, symbols_of}
 use Rattle.stored_form.specs.Symbols.{stored_size, byte_fill, fill_bits, packed_bytes, packed_symbols, stored_symbols, symbol_values}
 use Rattle.stored_form.proofs.Lists.{length-pieces, get_or-pieces}
@@ -14,7 +12,6 @@ use Rattle.stored_form.proofs.BitsLemmas.{number_of_below, length-bits_of, lengt
 use Rattle.stored_form.proofs.SymbolLemmas.{length-packed_symbols, packed_symbols-front}
 use Rattle.ag_frame.specs.Packing.{symbol_in, with_symbol}
 use Rattle.ag_frame.specs.Layouts.{fill_at}
-use Rattle.ag_frame.proofs.Windows.{one_written}
 
 -- ---- a symbol read
 pub packed_symbols-at : (width count i : ℕ) (bytes : List ℕ) → i < count → symbol_in (i * width) width (bits_of_symbols 8 bytes) ≡ get_or (packed_symbols width count bytes) i 0
@@ -108,53 +105,6 @@ fill-put true width count i symbol old new is below long e =
     let room : (i + 1) * width ≤ count * width = mul-le-mul_right width (let h : i + 1 ≤ count = omega arith in h) in
     ap (drop (count * width)) e ∙ drop-with_symbol (i * width) width symbol (count * width) (bits_of_symbols 8 old) (omega arith) (omega (arith, length-bits_of_symbols 8 old))
 fill-put false width count i symbol old new is below long e = absurd (cc)
-
--- ---- the loops that pack a group
--- the first i symbols are written, and the fill bits are 0
-pub record IsPackedTo (width count : ℕ) (target : List ℕ) (i : ℕ) (group : List ℕ) : Type 0 where
-  pub done : take (i * width) (bits_of_symbols 8 group) ≡ bits_of_symbols width (take i target)
-  pub fill : drop (count * width) (bits_of_symbols 8 group) ≡ replicate (byte_fill (count * width)) false
-
-pub packed-start : (width count i last : ℕ) (target group : List ℕ) → i ≡ 0 → 0 < width → 0 < count → length group ≡ stored_size true width count → last ≡ length group - 1 → IsPackedTo width count target i (set group last 0)
-packed-start width count i last target group none some more long is =
-    let bits : 0 < count * width = mul-pos more some in
-    let w = one_written group last 0 (omega arith) in
-    let before = bits_of_symbols 8 (take last group) in
-    let after = bits_of_symbols 8 (drop (last + 1) group) in
-    let nothing : after ≡ [] = nil_from_length after (length-bits_of_symbols 8 (drop (last + 1) group) ∙ omega (arith, length-drop (last + 1) group)) in
-    let place : count * width ≡ length before + (count * width - last * 8) = omega (arith, w.before_long) in
-    record {
-      done = ap₂ (λ a b. take a (bits_of_symbols 8 (set group last 0))) (ap (λ k. k * width) none ∙ zero-mul width) none ∙ sym (ap (λ k. bits_of_symbols width (take k target)) none);
-      fill =
-          ap₂ drop place w.bits_are
-          ∙ drop-append-add before (bits_of 8 0 ++ after) (count * width - last * 8)
-          ∙ ap (λ l. drop (count * width - last * 8) (bits_of 8 0 ++ l)) nothing
-          ∙ drop-replicate (count * width - last * 8) 8 false
-          ∙ ap (λ n. replicate n false) (let e : 8 - (count * width - last * 8) ≡ byte_fill (count * width) = omega arith in e);
-    }
-
-pub packed-more : (width count i j symbol : ℕ) (target old new : List ℕ) → j ≡ i + 1 → i < count → length target ≡ count → length old ≡ stored_size true width count → symbol ≡ get_or target i 0 →
-    bits_of_symbols 8 new ≡ with_symbol (i * width) width symbol (bits_of_symbols 8 old) → IsPackedTo width count target i old → IsPackedTo width count target j new
-packed-more width count i j symbol target old new next below long size value e so =
-    let room : (i + 1) * width ≤ count * width = mul-le-mul_right width (let h : i + 1 ≤ count = omega arith in h) in
-    let inside : i * width ≤ length (bits_of_symbols 8 old) = omega (arith, length-bits_of_symbols 8 old) in
-    record {
-      done =
-          ap₂ take (ap (λ k. k * width) next) e
-          ∙ take-with_symbol (i * width) width symbol ((i + 1) * width) (bits_of_symbols 8 old) (omega arith) inside
-          ∙ ap₂ (λ a s. a ++ bits_of width s) so.done value
-          ∙ ap (λ l. bits_of_symbols width (take i target) ++ l) (sym (append-nil (bits_of width (get_or target i 0))))
-          ∙ sym (flat_map-append (bits_of width) (take i target) (get_or target i 0 ∷ []))
-          ∙ ap (bits_of_symbols width) (sym (take_more target i 0 (omega arith)) ∙ ap (λ k. take k target) (sym next));
-      fill = ap (drop (count * width)) e ∙ drop-with_symbol (i * width) width symbol (count * width) (bits_of_symbols 8 old) (omega arith) inside ∙ so.fill;
-    }
-
-pub packed-end : (width count i : ℕ) (target group : List ℕ) → i ≡ count → length target ≡ count → IsPackedTo width count target i group → bits_of_symbols 8 group ≡ bits_of_symbols width target ++ fill_bits width target
-packed-end width count i target group all long so =
-    let bits = bits_of_symbols 8 group in
-    let front : take (count * width) bits ≡ bits_of_symbols width target = ap (λ k. take (k * width) bits) (sym all) ∙ so.done ∙ ap (bits_of_symbols width) (take_all i target (omega arith)) in
-    let back : drop (count * width) bits ≡ fill_bits width target = so.fill ∙ ap (λ l. replicate (byte_fill (l * width)) false) (sym long) in
-    sym (take-append-drop (count * width) bits) ∙ ap₂ (λ a b. a ++ b) front back
 
 pub packed_bytes-from_bits : (width : ℕ) (target group : List ℕ) → All (λ b. b < 256) group → bits_of_symbols 8 group ≡ bits_of_symbols width target ++ fill_bits width target → group ≡ packed_bytes width target
 packed_bytes-from_bits width target group fit e = sym (symbols_of-bits_of_symbols 8 group (omega arith) fit) ∙ ap (symbols_of 8) e

@@ -19,7 +19,7 @@ bits_of-add (suc a) b v =
 pub bits_of-joined : (a b high low : ℕ) → low < 2 ^ b → bits_of (a + b) (high * 2 ^ b + low) ≡ bits_of a high ++ bits_of b low
 bits_of-joined a b high low below = bits_of-add a b (high * 2 ^ b + low) ∙ ap₂ (λ h l. bits_of a h ++ l) (div-mul-add high (2 ^ b) low below) (bits_of_low b high low)
 
-bits_of_rest : (b v : ℕ) → bits_of b (v % 2 ^ b) ≡ bits_of b v
+pub bits_of_rest : (b v : ℕ) → bits_of b (v % 2 ^ b) ≡ bits_of b v
 bits_of_rest b v = sym (bits_of_low b (v / 2 ^ b) (v % 2 ^ b)) ∙ ap (bits_of b) (shr_split v b)
 
 -- ---- a symbol in a window

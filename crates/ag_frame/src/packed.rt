@@ -8,6 +8,7 @@ ghost use Rattle.stored_form.specs.Group.{spread, stored_group, stored_blocks};
 ghost use Rattle.ag_frame.specs.Packing.{IsPackedGroup, symbol_in, with_symbol};
 
 use crate::frame::{gather_words, spread_words};
+use crate::pending::Pending;
 
 // The symbol of `width` bits after the first `from` bits of a window of `size` bits.
 fn cut(window: u32, size: u32, from: u32, width: u32) -> u8
@@ -108,7 +109,7 @@ pub fn unpack_words(width: usize, n: usize, depth: usize, group: &[u8], words: &
     }
 }
 
-// The last byte is cleared first, so that its fill bits are 0; every other bit is written.
+// Each byte is stored once, and the bits that are left at the end with 0s behind them.
 fn pack_symbols(width: usize, n: usize, depth: usize, words: &[u8], group: &mut [u8])
     requires sizes { IsPackedGroup width n depth }
     requires words_long { length words.now ≡ n * depth }
@@ -117,17 +118,19 @@ fn pack_symbols(width: usize, n: usize, depth: usize, words: &[u8], group: &mut 
         ≡ bits_of_symbols width (spread n (whole_pieces n words.now))
         ++ fill_bits width (spread n (whole_pieces n words.now)) }
 {
-    let last = group.len() - 1;
-    group[last] = 0;
+    let mut pending = Pending {
+        bits: 0,
+        have: 0,
+        place: 0,
+    };
     for p in 0..n {
         for c in 0..depth {
-            put_packed(
-                width as u32,
-                (p * depth + c) * width,
-                words[c * n + p],
-                group,
-            );
+            pending.put(width as u32, words[c * n + p], group);
         }
+    }
+    let waiting = pending.have;
+    if waiting > 0 {
+        pending.put(8 - waiting, 0, group);
     }
 }
 
