@@ -25,7 +25,7 @@ use Rattle.order_domain.specs.Values.{value_at, sum_or_count, lead_at, HasOrdere
 use Rattle.order_domain.proofs.Values.{value_at-is, value_at-symbol, sum_or_count-some, values_law}
 use Rattle.eval_basis.specs.Flat.{IsTable}
 use Rattle.eval_basis.specs.Lists.{list_of, AreLists, IsStep}
-use Rattle.eval_basis.specs.Found.{AreStored, AreMembers, AreFirstLists, AreMarked}
+use Rattle.eval_basis.specs.Found.{AreStored, AreSoFar, AreMembers, AreFirstLists, AreMarked}
 use Rattle.eval_basis.proofs.Stepping.{field_of}
 use Rattle.eval_basis.proofs.Orders.{functionals_skipped}
 
@@ -65,15 +65,7 @@ lent d i v old now ok e long h =
       long = ap (λ (w : List Bool). length w) is ∙ long ∙ ap (λ (w : List Bool). length w) e;
     }
 
--- ---- the members among the functions below i; a function with a mark is a combination of those before it
-pub record AreSoFar (d : Domain) (modulus : ℕ) (points : List Point) (i : ℕ) (ranks vectors symbols order : List ℕ) (used old : List Bool) : Type 0 where
-  pub functionals : AreFunctionals (2 ^ d.bits) (gf_mul d.bits modulus) (length points) (value_at d modulus points) i (length ranks) (slice_index ranks) (list_of (length points) symbols order)
-  pub stored : AreStored d modulus points ranks vectors
-  pub are_lists : AreLists d.bits (length points) symbols order used
-  pub few : length ranks ≤ length points
-  pub n_old : length old ≡ d.count
-  pub old_are : (j : ℕ) → j < d.count → marked old j ≡ true → IsCombination (gf_mul d.bits modulus) (length points) (value_at d modulus points) j (value_at d modulus points j)
-
+-- ---- one member more
 stored_more : (d : Domain) (modulus : ℕ) (points : List Point) (i : ℕ) (ranks vectors values : List ℕ) → length values ≡ length points → ((p : ℕ) → p < length points → slice_index values p ≡ value_at d modulus points i p)
     → AreStored d modulus points ranks vectors → AreStored d modulus points (ranks ++ i ∷ []) (vectors ++ values)
 stored_more d modulus points i ranks vectors values long is h = record {
@@ -170,7 +162,31 @@ module _ (d : Domain) (modulus : ℕ) (points : List Point) (lawful : IsOrderDom
         i w.0 li lg (subst (λ (s : ℕ). s < d.count) (sym flipped) lj) is)
   ]
 
-  -- a function that is marked is not evaluated
+  -- a function that is a combination of those before it is no member
+  pub so_far_passed : (i : ℕ) (ranks vectors symbols order : List ℕ) (used old : List Bool) → IsOld i → AreSoFar d modulus points i ranks vectors symbols order used old
+      → AreSoFar d modulus points (i + 1) ranks vectors symbols order used old
+  so_far_passed i ranks vectors symbols order used old is h = record {
+    functionals =
+        functionals_skipped (2 ^ d.bits) (gf_mul d.bits modulus) (length points) (value_at d modulus points) (field_of d.bits modulus is_modulus) i (length ranks) (slice_index ranks) (list_of (length points) symbols order) is h.functionals;
+    stored = h.stored;
+    are_lists = h.are_lists;
+    few = h.few;
+    n_old = h.n_old;
+    old_are = h.old_are;
+  }
+
+  -- the sums with it are marked
+  pub so_far_marked : (i at : ℕ) (ranks vectors symbols order : List ℕ) (used old now : List Bool) → i < d.count → IsOld i → IsLent d i old now → AreSoFar d modulus points at ranks vectors symbols order used old
+      → AreSoFar d modulus points at ranks vectors symbols order used now
+  so_far_marked i at ranks vectors symbols order used old now li is m h = record {
+    functionals = h.functionals;
+    stored = h.stored;
+    are_lists = h.are_lists;
+    few = h.few;
+    n_old = m.long ∙ h.n_old;
+    old_are = marks_kept i old now li is m.marked_now h.old_are;
+  }
+
   pub so_far_skipped : (i : ℕ) (ranks vectors symbols order : List ℕ) (used old now : List Bool) → i < d.count → marked old i ≡ true → IsLent d i old now → AreSoFar d modulus points i ranks vectors symbols order used old
       → AreSoFar d modulus points (i + 1) ranks vectors symbols order used now
   so_far_skipped i ranks vectors symbols order used old now li mark m h =

@@ -11,3 +11,8 @@ pub mod Assembly
 pub mod ByLabels
 pub mod Determined
 pub mod Membership
+pub mod FlatTables
+pub mod AfterTakes
+pub mod Settling
+pub mod Waiting
+pub mod Judging

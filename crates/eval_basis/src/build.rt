@@ -41,7 +41,7 @@ impl<F: Field> EvalBasis<F> {
             ranks,
             vectors,
             duals,
-        } = find_members(alloc, &field, dom, points)?;
+        } = find_members(rt, alloc, &field, dom, points, workers)?;
         let tables = tables_of(alloc, &field, dom, &ranks)?;
         Ok(EvalBasis {
             field,

@@ -6,15 +6,16 @@
 //! function with all lists are one combination of rows, and a list that is taken changes each row by one multiple of the
 //! products. A position is not used, and its row still a unit, until the list of its own number is taken.
 
-ghost use Rattle.std.specs.Prelude.{ℕ, ◌≡◌, ◌≢◌, ◌+◌, ◌*◌, ◌<◌, ◌≤◌, ◌^◌, false, length, slice_index, All, IfOk, IsTrue, MatchOption};
+ghost use Rattle.std.specs.Prelude.{ℕ, ◌≡◌, ◌≢◌, ◌*◌, ◌<◌, ◌≤◌, ◌^◌, false, length, slice_index, All, IfOk, MatchOption};
 ghost use Rattle.field_theory.specs.Sums.{unit};
 ghost use Rattle.gf_theory.specs.Field.{gf_mul};
 ghost use Rattle.linear_theory.specs.Linear.{combine};
 ghost use Rattle.order_theory.specs.Codes.{marked};
 ghost use Rattle.gf_linear.specs.Cells.{cell};
 ghost use Rattle.eval_basis.specs.Flat.{IsList, IsTable};
-ghost use Rattle.eval_basis.specs.Lists.{AreLists, IsTaken, IsStep, list_of, taken};
+ghost use Rattle.eval_basis.specs.Lists.{list_of, AreTakes, IsSettled};
 
+use crate::takes::{Takes, add_take};
 use gf_field::Field;
 use gf_linear::add_scaled;
 use std::alloc::{AllocError, Global};
@@ -77,8 +78,8 @@ pub fn in_order(alloc: Global, symbols: &[u8], order: &[u32]) -> Result<Vec<u8>,
     Ok(lists)
 }
 
-// The products of the values with all lists.
-fn multiply<F: Field>(f: &F, values: &[u8], symbols: &[u8], used: &[bool], products: &mut [u8])
+/// The products of the values with all lists.
+pub fn multiply<F: Field>(f: &F, values: &[u8], symbols: &[u8], used: &[bool], products: &mut [u8])
     requires few { length values.now ≤ 1024 }
     requires fits { length symbols.now ≡ length values.now * length values.now }
     requires marks { length used.now ≡ length values.now }
@@ -122,77 +123,42 @@ fn first_seeing(products: &[u8], order: &[u32], k: usize) -> Option<usize>
     None
 }
 
-// The symbols of all lists at one position, where list q is taken. Its product is scaled to 1 already.
-fn take_at<F: Field>(f: &F, factor: u8, q: usize, products: &[u8], row: &mut [u8])
-    requires same { length row.old ≡ length products.now }
-    requires list { q < length row.old }
-    requires factor { factor < 2 ^ F.bits_of f.now }
-    requires one { slice_index products.now q ≡ 1 }
-    requires products { All (λ x. x < 2 ^ F.bits_of f.now) products.now }
-    requires symbols { All (λ x. x < 2 ^ F.bits_of f.now) row.old }
-    ensures value { (j : ℕ) → j < length row.old → slice_index row.new j
-        ≡ taken (gf_mul (F.bits_of f.now) (F.modulus_of f.now)) factor q
-        (slice_index row.old) (slice_index products.now) j }
-    ensures symbols { All (λ x. x < 2 ^ F.bits_of f.now) row.new }
-{
-    f.bits();
-    let multiple = f.mul(factor, row[q]);
-    row[q] = 0;
-    add_scaled(f, row, multiple, products);
-}
-
-// Takes list q at each position. Its product becomes 1.
-fn take_list<F: Field>(f: &F, q: usize, products: &mut [u8], symbols: &mut [u8])
-    requires few { length products.old ≤ 1024 }
-    requires fits { length symbols.old ≡ length products.old * length products.old }
-    requires list { q < length products.old }
-    requires seeing { slice_index products.old q ≢ 0 }
-    requires products { All (λ x. x < 2 ^ F.bits_of f.now) products.old }
-    requires symbols { All (λ x. x < 2 ^ F.bits_of f.now) symbols.old }
-    ensures taken { IsTaken (gf_mul (F.bits_of f.now) (F.modulus_of f.now)) (length products.old) q
-        products.old symbols.old symbols.new }
-    ensures symbols { All (λ x. x < 2 ^ F.bits_of f.now) symbols.new }
-{
-    f.bits();
-    let n = products.len();
-    let factor = f.inv(products[q]);
-    products[q] = 1;
-    for p in 0..n {
-        take_at(f, factor, q, products, &mut symbols[p * n..p * n + n]);
-    }
-}
-
-/// Whether the function with these values is new, where k members are known. If so list k of the order becomes its dual
-/// list, and the other lists come to vanish on it. The room is for the products.
+/// Whether the function that has these products with the lists is new, where k members are known. If so list k of the order
+/// becomes its dual list, and what that does to the lists is one take more. The products then have 1 for the list taken.
 pub fn step<F: Field>(
     f: &F,
-    values: &[u8],
     k: usize,
-    symbols: &mut [u8],
+    products: &mut [u8],
     order: &mut [u32],
     used: &mut [bool],
-    products: &mut [u8],
-) -> bool
-    requires few { length values.now ≤ 1024 }
-    requires lists { AreLists (F.bits_of f.now) (length values.now) symbols.old order.old used.old }
-    requires values { All (λ x. x < 2 ^ F.bits_of f.now) values.now }
-    requires room { length products.old ≡ length values.now }
-    ensures lists { AreLists (F.bits_of f.now) (length values.now) symbols.new order.new used.new }
-    ensures step { IsStep (2 ^ F.bits_of f.now) (gf_mul (F.bits_of f.now) (F.modulus_of f.now))
-        (length values.now) k values.now symbols.old order.old symbols.new order.new result }
-    ensures within { IsTrue result → k < length values.now }
+    takes: &mut Takes,
+) -> Result<bool, AllocError>
+    requires n_order { length order.old ≡ length products.old }
+    requires n_used { length used.old ≡ length products.old }
+    requires numbers { (i : ℕ) → i < length order.old →
+        slice_index order.old i < length products.old }
+    requires products { All (λ x. x < 2 ^ F.bits_of f.now) products.old }
+    requires takes { AreTakes (F.bits_of f.now) (length products.old) takes.old.numbers.items
+        takes.old.factors.items takes.old.products.items }
+    ensures settled { IfOk result (IsSettled (F.bits_of f.now) (F.modulus_of f.now)
+        (length products.old) k products.old order.old takes.old.numbers.items
+        takes.old.factors.items takes.old.products.items used.old order.new
+        takes.new.numbers.items takes.new.factors.items takes.new.products.items used.new) }
+    ensures takes { IfOk result (λ _. AreTakes (F.bits_of f.now) (length products.old)
+        takes.new.numbers.items takes.new.factors.items takes.new.products.items) }
+    ensures numbers { (i : ℕ) → i < length order.old →
+        slice_index order.new i < length products.old }
 {
     f.bits();
-    multiply(f, values, symbols, used, products);
     match first_seeing(products, order, k) {
-        None => false,
+        None => Ok(false),
         Some(place) => {
             let q = order[place];
             order[place] = order[k];
             order[k] = q;
             used[q as usize] = true;
-            take_list(f, q as usize, products, symbols);
-            true
+            add_take(f, q, products, takes)?;
+            Ok(true)
         }
     }
 }

@@ -7,12 +7,14 @@ ghost use Rattle.eval_basis.specs.ByLabels.{AtMostLaw};
 ghost use Rattle.eval_basis.specs.Determined.{DeterminedLaw};
 ghost use Rattle.eval_basis.specs.Members.{RuleLaw};
 
+mod bands;
 mod basis;
 mod build;
 mod checked;
 mod elimination;
 mod members;
 mod tables;
+mod takes;
 
 pub use basis::EvalBasis;
 pub use checked::{CheckRule, Checked};
@@ -36,3 +38,6 @@ pub fn code_by_labels()
 pub fn basis_is_determined()
     ensures { DeterminedLaw }
 {}
+
+#[cfg(test)]
+mod tests;

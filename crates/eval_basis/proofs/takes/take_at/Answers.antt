@@ -3,7 +3,7 @@ use Rattle.std.proofs.lemmas.List.{length-set}
 use Rattle.gf_theory.specs.Field.{gf_mul}
 use Rattle.eval_basis.proofs.Stepping.{field_of}
 use Rattle.eval_basis.proofs.ListSteps.{taken_here}
-use Rattle.eval_basis.proofs.elimination.take_at.Goals as goal
+use Rattle.eval_basis.proofs.takes.take_at.Goals as goal
 
 pub returns-clause-value : goal.returns-clause-value
 returns-clause-value g c j l =
