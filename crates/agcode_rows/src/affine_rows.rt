@@ -51,6 +51,25 @@ fn a_packed_code_on_a_line(rt: HostRuntime) -> Result<(), Fail> {
     Ok(())
 }
 
+// The byte 0x41: of its first codeword two symbols changed places, and the second has one change.
+#[test]
+fn a_lost_codeword_on_a_line(rt: HostRuntime) -> Result<(), Fail> {
+    let text = [1, 0, 2, 3, 0, 1, 2, 0, 2, 0, 1, 3];
+    let report = "lost 0 0\nchanged 1 0 3 00 03\nsalvaged bytes 1 groups 3 changed 1 lost 1\n";
+    let row = Row {
+        out: &[0x41],
+        ..stopped(
+            "decode --salvage D",
+            LINE_4,
+            &text,
+            Status::Salvaged,
+            report,
+        )
+    };
+    assert!(rt; is_met(&rt, rt.alloc(), &row)?);
+    Ok(())
+}
+
 #[test]
 fn a_hyperbolic_code(rt: HostRuntime) -> Result<(), Fail> {
     let alloc = rt.alloc();

@@ -116,6 +116,7 @@ fn other_texts_are_no_descriptors(rt: HostRuntime) -> Result<(), Fail> {
     let large = DescCause::TooLarge;
     assert!(rt; is_no_descriptor(&rt, alloc, b"", bits, "descriptor: key bits\n")?);
     assert!(rt; is_no_descriptor(&rt, alloc, b"\xff", no_toml, "descriptor: not toml\n")?);
+    assert!(rt; is_no_descriptor(&rt, alloc, b"bits = ", no_toml, "descriptor: not toml\n")?);
     assert!(rt; is_no_descriptor(&rt, alloc, &long, large, "descriptor: too large\n")?);
     Ok(())
 }

@@ -35,6 +35,8 @@ mod member_rows;
 #[cfg(test)]
 mod packed_rows;
 #[cfg(test)]
+mod rest_rows;
+#[cfg(test)]
 mod rig;
 #[cfg(test)]
 mod salvage_rows;

@@ -1,7 +1,7 @@
 //! Runs over memory. What a run leaves is plain data, and the runs themselves are generic over their sources and sinks: so no
 //! test knows what a run ensures.
 
-use ag_io::{MemSink, MemSource, Sink, Source};
+use ag_io::{Filled, MemSink, MemSource, Sink, Source, fill};
 use ag_pool::{Gate, OpenGate};
 use agcode_top::{Status, run};
 use std::alloc::{AllocError, Global};
@@ -13,6 +13,8 @@ pub struct Left {
     pub status: Status,
     pub out: Vec<u8>,
     pub report: Vec<u8>,
+    /// How many bytes of the input were not taken; of more than 128 it is 128.
+    pub unread: usize,
 }
 
 /// How the sources and sinks of a run behave: the most bytes that a call of a source gives, the bytes that out has room for,
@@ -118,6 +120,16 @@ fn run_line<X: Threads + Sync, D: Source, I: Source, O: Sink, R: Sink, G: Gate>(
     Ok(run(rt, alloc, &words, desc, input, out, report, gate))
 }
 
+// How many bytes a source still gives; of more than 128 it is 128.
+fn count_left<I: Source>(input: &mut I) -> usize {
+    let mut rest = [0u8; 128];
+    match fill(input, &mut rest) {
+        Filled::Whole => rest.len(),
+        Filled::End { got } => got,
+        Filled::Fault { got } => got,
+    }
+}
+
 // What a run through a gate leaves.
 fn left_through<X: Threads + Sync, G: Gate>(
     rt: &X,
@@ -144,6 +156,7 @@ fn left_through<X: Threads + Sync, G: Gate>(
         status,
         out: out.bytes().to_vec(alloc)?,
         report: report.bytes().to_vec(alloc)?,
+        unread: count_left(&mut input),
     })
 }
 
@@ -166,8 +179,24 @@ pub fn is_met_through<X: Threads + Sync, G: Gate>(
     gate: &G,
 ) -> Result<bool, AllocError> {
     let left = left_through(rt, alloc, row, gate)?;
+    Ok(is_as_said(&left, row))
+}
+
+// Whether a run left what the row says.
+fn is_as_said(left: &Left, row: &Row) -> bool {
     let is_told = left.status == row.status && left.report.as_slice() == row.report;
-    Ok(is_told && left.out.as_slice() == row.out)
+    is_told && left.out.as_slice() == row.out
+}
+
+/// Whether the run of a row leaves what the row says, and so many bytes of the input.
+pub fn is_met_with_unread<X: Threads + Sync>(
+    rt: &X,
+    alloc: Global,
+    row: &Row,
+    unread: usize,
+) -> Result<bool, AllocError> {
+    let left = left_through(rt, alloc, row, &OpenGate)?;
+    Ok(left.unread == unread && is_as_said(&left, row))
 }
 
 /// Whether the run of a row leaves what the row says.

@@ -14,7 +14,7 @@ const BYTE_41: [u8; 16] = [1, 0, 0, 1, 2, 3, 1, 0, 1, 2, 0, 3, 0, 3, 0, 3];
 
 const POINTS: &[u8] = b"[0, 0],\n[0, 1],\n[1, 2],\n[1, 3],\n[2, 2],\n[2, 3],\n[3, 2],\n[3, 3],\n";
 
-const PARAMS: &[u8] =
+pub const PARAMS: &[u8] =
     b"n 8\nk 3\nchecks 5\nbound 5\nt 2\nlabels 0 2 3 4 5 6 7 9\nchecked 0 2 3 4 5\nrelation 3:1 6:1\n";
 
 const VOTES: &[u8] = b"6 5 5 0\n7 6 6 0\n9 8 8 0\n";
@@ -23,6 +23,12 @@ const TRIAL: &[u8] = b"bytes 3\ncodewords 5\nchanged 3\ncorrected 3\nequal yes\n
 
 const PLANS: &[u8] =
     b"want 1\norder weight 3 checks 3 bound 3\nstop 3 2\nimproved 3 checks 3 bound 3\nmust 0:1 2:2 3:2\n";
+
+const NO_BYTES: &[u8] = b"done bytes 0 groups 1 changed 0\n";
+
+const ONE_BYTE: &[u8] = b"done bytes 1 groups 2 changed 0\n";
+
+const THREE_BYTES: &[u8] = b"done bytes 3 groups 5 changed 0\n";
 
 const FOUR_LOST: [u8; 16] = [0, 0, 0, 0, 3, 1, 2, 0, 1, 1, 1, 1, 0, 0, 0, 0];
 
@@ -209,6 +215,10 @@ fn encode_stops_after_the_groups_it_has(rt: HostRuntime) -> Result<(), Fail> {
         encoding(&[0; 3], reads(&[2]), unread, &zeros[..16]),
         encoding(&[0; 3], reads(&[3]), unread, &zeros[..32]),
         encoding(&[0; 3], reads(&[4]), done, &zeros),
+        encoding(&[0; 3], writes(&[0]), unwritten, &[]),
+        encoding(&[0; 3], writes(&[1]), unwritten, &zeros[..8]),
+        encoding(&[0; 3], writes(&[2]), unwritten, &zeros[..16]),
+        encoding(&[0; 3], writes(&[3]), unwritten, &zeros[..24]),
         encoding(&[0; 3], writes(&[4]), unwritten, &zeros[..32]),
         encoding(&[0; 3], writes(&[5]), done, &zeros),
     ];
@@ -278,7 +288,63 @@ fn decode_stops_after_the_bytes_it_is_sure_of(rt: HostRuntime) -> Result<(), Fai
         decoding(&zeros, reads(&[3]), unread, &[0]),
         decoding(&zeros, reads(&[4]), unread, &[0; 2]),
         decoding(&zeros, reads(&[5]), unread, &[0; 3]),
+        decoding(&zeros, writes(&[0]), unwritten, &[]),
+        decoding(&zeros, writes(&[1]), unwritten, &[0]),
+        decoding(&zeros, writes(&[2]), unwritten, &[0; 2]),
         decoding(&zeros, tells(&[0]), untold, &[0; 3]),
     ];
     assert_decodes(&rt, rt.alloc(), &rows)
+}
+
+// decode of a text, group by group, whose call that fails comes after its last one.
+fn decoded<'a>(text: &'a [u8], ends: Ends<'a>, out: &'a [u8], report: &'a [u8]) -> Row<'a> {
+    Row {
+        ends,
+        report,
+        ..done("decode D", HERMITIAN_4, text, out)
+    }
+}
+
+#[test]
+fn decode_is_done_where_no_call_fails(rt: HostRuntime) -> Result<(), Fail> {
+    let reads = |fails| Ends {
+        input_piece: 8,
+        input_fails: fails,
+        ..WORKING
+    };
+    let tells = |fails| Ends {
+        report_fails: fails,
+        ..WORKING
+    };
+    let writes = |fails| Ends {
+        out_fails: fails,
+        ..WORKING
+    };
+    let mut zeros = [0u8; 40];
+    zeros[32..].copy_from_slice(&EMPTY);
+    let rows = [
+        decoded(&EMPTY, reads(&[2]), &[], NO_BYTES),
+        decoded(&EMPTY, writes(&[0]), &[], NO_BYTES),
+        decoded(&EMPTY, tells(&[1]), &[], NO_BYTES),
+        decoded(&BYTE_41, reads(&[3]), &[0x41], ONE_BYTE),
+        decoded(&BYTE_41, writes(&[1]), &[0x41], ONE_BYTE),
+        decoded(&BYTE_41, tells(&[1]), &[0x41], ONE_BYTE),
+        decoded(&zeros, reads(&[6]), &[0; 3], THREE_BYTES),
+        decoded(&zeros, writes(&[3]), &[0; 3], THREE_BYTES),
+        decoded(&zeros, tells(&[1]), &[0; 3], THREE_BYTES),
+    ];
+    assert_decodes(&rt, rt.alloc(), &rows)
+}
+
+#[test]
+fn encode_and_decode_stop_at_the_descriptor(rt: HostRuntime) -> Result<(), Fail> {
+    let alloc = rt.alloc();
+    let rows = [
+        done("encode D", HERMITIAN_4, &[0x41], &BYTE_41),
+        decoded(&BYTE_41, WORKING, &[0x41], ONE_BYTE),
+    ];
+    for row in rows {
+        assert!(rt; each_stops(&rt, alloc, &row, Object::Desc, 2)?);
+    }
+    Ok(())
 }

@@ -31,9 +31,9 @@ use Rattle.agcode_top.specs.Leaves.{AnswerLeaves, said, out_stopped, report_stop
 use Rattle.descriptor_design.specs.Plans.{HasMany}
 use Rattle.descriptor_design.proofs.Once.{some_design}
 use Rattle.agcode_top.specs.Design.{SaysDesign, has_plans, no_plan}
-use Rattle.agcode_top.specs.Headline.{IsTableText, RefusesBy, RefusesExactly, IsFileText, IsValid, Completes}
+use Rattle.agcode_top.specs.Headline.{IsTableText, RefusesBy, RefusesExactly, AcceptsFirst, IsFileText, IsValid, Completes}
 use Rattle.agcode_top.proofs.EraseLemmas.{valid-erase}
-use Rattle.agcode_top.proofs.EndLemmas.{with_line, stayed-front, Served, one_text, encodes, decodes, serves, ends-can, ends-own, serve-InputFault, serve-OutFault, serve-ReportFault, same-parts, refused-accepted, one-cause, carried-served, obeyed-carried, described-ends, carried-not-Usage}
+use Rattle.agcode_top.proofs.EndLemmas.{with_line, stayed-front, Served, one_text, encodes, decodes, serves, ends-can, ends-own, serve-InputFault, serve-OutFault, serve-ReportFault, same-parts, refused-accepted, one-cause, carried-served, obeyed-carried, described-ends, described-at, carried-not-Usage}
 
 -- how a command ends on a valid input
 pub valid-member : (p : Parts) (input : List ℕ) (status : Status) (text : List ℕ) → IsInCode (checks p) input → SaysMember p input status text → status ≡ Done
@@ -178,6 +178,11 @@ carried-refused ws command run s cause (served h) told r = absurd (refused-accep
 
 pub run-refused : (texts : List (List ℕ)) (run : Call) (s : Status) → ObeyLeaves texts run s → OnWords texts (λ w. RefusesExactly w.command run.desc s)
 run-refused texts run s h v k cause told r = carried-refused v v.command run s cause (obeyed-carried texts run s h v k) told r
+
+pub run-accepted : (texts : List (List ℕ)) (run : Call) (s : Status) → ObeyLeaves texts run s → OnWords texts (λ w. AcceptsFirst w.command run.desc s)
+run-accepted texts run s h v k own told =
+    let d = described-at v v.command run s s (obeyed-carried texts run s h v k) refl own in
+    (d.parts, d.accepted told)
 
 -- no count rose over the first part of a run
 pub none-first : (run : Call) (last : SinkView) → run.report.before.faults ≤ run.report.after.faults → run.report.after.faults ≤ last.faults → NoneFailed (with_line run last) → NoneFailed run

@@ -16,6 +16,7 @@
 --                     was wanting
 -- RefusesBy           a descriptor is refused for its first cause
 -- RefusesExactly      .. exactly where it has one, unless it could not be read or memory was wanting
+-- AcceptsFirst        the descriptor of a command that ends by its own work, or by a fault on its way, is one that it accepts
 -- OfText              a premise of the next ones: the command writes one text, and the descriptor and what it reads are
 --                     told
 -- Answers             a command that writes one text says its answer: what it is by the descriptor and the input, with
@@ -165,6 +166,9 @@ RefusesBy command desc status = (cause : DescCause) → status ≡ Descriptor ca
 abbrev pub RefusesExactly : Command → SourceCall → Status → Type 0
 RefusesExactly command desc status = (cause : DescCause) → IsTrue desc.tells → Refuses command desc.before.left cause →
     (status ≡ Descriptor cause) ⊎ (status ≡ DescFault) ⊎ (status ≡ NoMemory)
+
+abbrev pub AcceptsFirst : Command → SourceCall → Status → Type 0
+AcceptsFirst command desc status = IsOwn status → IsTrue desc.tells → (p : Parts) × Accepts command desc.before.left p
 
 pub record AnswersOver (asked : Words) (c : Call) (status : Status) : Type 0 where
   pub parts : Parts

@@ -10,6 +10,7 @@ ghost use Rattle.agcode_top.specs.Lines.{line_of};
 ghost use Rattle.agcode_top.specs.Headline.{StoresImage, Repairs, ReadsText, Completes, RefusesBy};
 ghost use Rattle.agcode_top.specs.Headline.{Answers, RefusesExactly, AnswersExactly, EncodesAs, DecodesAs};
 ghost use Rattle.agcode_top.specs.Headline.{AnswersPart, AnswersUntold, LeavesUntouched, LeavesUnread};
+ghost use Rattle.agcode_top.specs.Headline.{AcceptsFirst};
 ghost use Rattle.agcode_top.specs.Headline.{Rescues, SalvagesExactly, SalvagesAs};
 ghost use Rattle.agcode_top.specs.Headline.{TellsLine, TakesWithin, TellsNumber, KeepsCounts};
 
@@ -54,6 +55,8 @@ pub fn run<X: Threads + Sync, D: Source, I: Source, O: Sink, R: Sink, G: Gate>(
     ensures own { OnWords (map string_bytes words.now) (λ w. CanEnd result w.command) }
     ensures descriptor { OnWords (map string_bytes words.now)
         (λ w. RefusesBy w.command (source_call D.Source desc.old desc.new) result) }
+    ensures accepted { OnWords (map string_bytes words.now)
+        (λ w. AcceptsFirst w.command (source_call D.Source desc.old desc.new) result) }
     ensures desc_fault { result ≡ Status.DescFault →
         Rose (D.view desc.old).faults (D.view desc.new).faults }
     ensures input_fault { result ≡ Status.InputFault →

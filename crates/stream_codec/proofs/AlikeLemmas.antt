@@ -86,17 +86,23 @@ sure_front G z more n sound whole none =
     let same : corrected G text n ≡ corrected G z n = corrected-append G z more n sound (even_is G z n sound whole) (omega arith) in
     (rest, e ∙ ap (λ b. symbols_of 8 b ++ rest) (same ∙ ap (corrected G z) (sym count)))
 
-pub report_front : (G : Form) (z more : List ℕ) (n : ℕ) → IsSound G → length z ≡ n * group_bytes G → lost_count G z ≡ 0 → (rest : List ℕ) × (report_of G (z ++ more) ≡ told_lines G z ++ rest)
+pub lines_front : (G : Form) (z more : List ℕ) (n : ℕ) → IsSound G → length z ≡ n * group_bytes G → lost_count G z ≡ 0 → (rest : List ℕ) × (lines G (z ++ more) ≡ told_lines G z ++ rest)
 unfolding changes AllNear
-report_front G z more n sound whole none =
+lines_front G z more n sound whole none =
     let text = z ++ more in
     let (rest, e) = changes_to_front G text n (told_groups G text (reading G text)) (told_at_least G z more n sound whole (all_near_from_count G z none)) in
     let same : changes_to G text n ≡ changes_to G z n = changes_to-append G z more n sound (even_is G z n sound whole) (omega (arith, count_is G z n sound whole)) in (
-      lines_of rest ++ done G text,
-      ap (λ cs. lines_of cs ++ done G text) (e ∙ ap (λ cs. cs ++ rest) same)
-          ∙ ap (λ l. l ++ done G text) (lines_of-append (changes_to G z n) rest ∙ ap (λ l. l ++ lines_of rest) (sym (told_changes G z n sound whole none)))
-          ∙ append_assoc (told_lines G z) (lines_of rest) (done G text),
+      lines_of rest,
+      ap (λ cs. lines_of cs) (e ∙ ap (λ cs. cs ++ rest) same)
+          ∙ lines_of-append (changes_to G z n) rest
+          ∙ ap (λ l. l ++ lines_of rest) (sym (told_changes G z n sound whole none)),
     )
+
+pub report_front : (G : Form) (z more : List ℕ) (n : ℕ) → IsSound G → length z ≡ n * group_bytes G → lost_count G z ≡ 0 → (rest : List ℕ) × (report_of G (z ++ more) ≡ told_lines G z ++ rest)
+report_front G z more n sound whole none =
+    let (rest, e) = lines_front G z more n sound whole none in
+    let last = done G (z ++ more) in
+    (rest ++ last, ap (λ l. l ++ last) e ∙ append_assoc (told_lines G z) rest last)
 
 -- .. of a salvage
 pub salvage_front : (G : Form) (z more : List ℕ) (n : ℕ) → IsSound G → length z ≡ n * group_bytes G → (rest : List ℕ) × (salvage_report G (z ++ more) ≡ told_lines G z ++ rest)

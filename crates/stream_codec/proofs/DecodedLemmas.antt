@@ -156,8 +156,8 @@ decoded_answered d z p answer sound k none within spent steady h = go (ending d.
         subst (DecodedAs d) (sym same) (decoded_as d (Err Framing) ends (λ t. refuses d z p ReadFraming none e refl refl within (text_left t) wrote_out told) (sinks, steady))
     go (ReadBeyond g c) e = absurd (no_beyond d.form (z ++ p) g c e)
 
--- ---- a write that failed: fronts of what is sure of the bytes taken, and of their report
-pub decoded_out : (d : Decode) (z p bytes told rest more : List ℕ) → IsSound d.form → Taken d z p → sure_bytes d.form (z ++ p) ≡ bytes ++ rest → report_of d.form (z ++ p) ≡ told ++ more → WroteSome d.out_tells d.out d.out_after bytes → Wrote d.report_tells d.report d.report_after told → DecodedAs d (Err OutFault)
+-- ---- a write that failed: fronts of what is sure of the bytes taken, and of their lines or their report
+pub decoded_out : (d : Decode) (z p bytes told rest more : List ℕ) → IsSound d.form → Taken d z p → sure_bytes d.form (z ++ p) ≡ bytes ++ rest → lines d.form (z ++ p) ≡ told ++ more → WroteSome d.out_tells d.out d.out_after bytes → Wrote d.report_tells d.report d.report_after told → DecodedAs d (Err OutFault)
 decoded_out d z p bytes told rest more sound k e f w r =
     let part = some_of_longer rest (sure_bytes d.form (z ++ p)) w e in
     decoded_as d (Err OutFault) (out_bounds d z p bytes told sound k w r)
@@ -165,7 +165,7 @@ decoded_out d z p bytes told rest more sound k e f w r =
       left = were_taken d z p k t;
       out = subst (λ l. GivesFront d.out_tells d.out d.out_after (sure_bytes d.form l)) (sym same) part.gives;
       fewer = subst (λ l. GivesLess d.out_tells d.out d.out_after (sure_bytes d.form l)) (sym same) part.fewer;
-      report = subst (λ l. GivesFront d.report_tells d.report d.report_after (report_of d.form l)) (sym same) (gave_front more (report_of d.form (z ++ p)) r f);
+      report = subst (λ l. GivesFront d.report_tells d.report d.report_after (lines d.form l)) (sym same) (gave_front more (lines d.form (z ++ p)) r f);
     })
     (r.faults, w.rose, w.enough)
 

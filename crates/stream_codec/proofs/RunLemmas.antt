@@ -14,7 +14,7 @@ use Rattle.stream_codec.specs.Dealing.{NoneLost, Dealt, TextStopped, TextEnded, 
 use Rattle.stream_codec.specs.Decoding.{Decode, sinks_in}
 use Rattle.stream_codec.specs.Running.{MayDecode, RunAs}
 use Rattle.stream_codec.specs.Salvaging.{whole_bytes, told_lines, salvage_report}
-use Rattle.stream_codec.specs.Report.{sure_bytes, report_of}
+use Rattle.stream_codec.specs.Report.{sure_bytes, lines, report_of}
 use Rattle.stream_codec.specs.Sinks.{Sinks}
 use Rattle.stream_codec.specs.Windows.{CutShort}
 use Rattle.stream_codec.proofs.EndLemmas.{rest_blocks}
@@ -25,9 +25,9 @@ use Rattle.stream_codec.specs.declared.deal.WhenLost.TheVariants.{Stop, Keep}
 use Rattle.stream_codec.specs.declared.decode.DecodeFault.{DecodeFault}
 use Rattle.stream_codec.specs.declared.decode.DecodeFault.TheVariants.{InputFault, OutFault, ReportFault, TooLong, Beyond, Ragged, Framing}
 use Rattle.stream_codec.specs.declared.salvage.SalvageCounts.{SalvageCounts}
-use Rattle.stream_codec.proofs.DealtLemmas.{lost_is, whole_front}
+use Rattle.stream_codec.proofs.DealtLemmas.{lost_is, whole_front, told_front}
 use Rattle.stream_codec.proofs.TakenLemmas.{Taken, left_is, exactly}
-use Rattle.stream_codec.proofs.AlikeLemmas.{none_at_front, sure_alike, report_alike, sure_front, report_front, salvage_front}
+use Rattle.stream_codec.proofs.AlikeLemmas.{none_at_front, told_alike, sure_alike, report_alike, sure_front, lines_front, report_front, salvage_front}
 use Rattle.stream_codec.proofs.DecodedLemmas.{decoded_answered, decoded_out, decoded_report, decoded_beyond, decoded_input, decoded_too_long}
 use Rattle.stream_codec.proofs.SalvagedLemmas.{salvaged_answered, salvaged_out, salvaged_report, salvaged_input, salvaged_too_long}
 
@@ -66,13 +66,13 @@ run_stopped d when z p OutFault sound k (u, f, w, r) =
     record {
       salvaged = λ keep.
           let (rest, e) = whole_front G u (f.rest ++ p) f.groups sound f.whole in
-          let (more, h) = salvage_front G u (f.rest ++ p) f.groups sound f.whole in
-          salvaged_out d z p (whole_bytes G u) (told_lines G u) rest more sound k (ap (whole_bytes G) text ∙ e) (ap (salvage_report G) text ∙ h) w r;
+          let (more, h) = told_front G u (f.rest ++ p) f.groups sound f.whole in
+          salvaged_out d z p (whole_bytes G u) (told_lines G u) rest more sound k (ap (whole_bytes G) text ∙ e) (ap (told_lines G) text ∙ h) w r;
       decoded = λ may.
           let none = may_none d when u (f.rest ++ (p ++ d.source_after.left)) f.groups sound f.whole may f.none (front_left d z p u f.rest k f.text_is) in
           let (rest, e) = sure_front G u (f.rest ++ p) f.groups sound f.whole none in
-          let (more, h) = report_front G u (f.rest ++ p) f.groups sound f.whole none in
-          decoded_out d z p (whole_bytes G u) (told_lines G u) rest more sound k (ap (sure_bytes G) text ∙ e) (ap (report_of G) text ∙ h) w r;
+          let (more, h) = lines_front G u (f.rest ++ p) f.groups sound f.whole none in
+          decoded_out d z p (whole_bytes G u) (told_lines G u) rest more sound k (ap (sure_bytes G) text ∙ e) (ap (lines G) text ∙ h) w r;
     }
 run_stopped d when z p ReportFault sound k (u, f, w, r) =
     let G = d.form in
@@ -112,10 +112,10 @@ run_ended d when z p answer sound k none within spent steady (out_stopped is w r
     let G = d.form in
     let text = z ++ p in
     subst (RunAs d when) (sym is) (record {
-      salvaged = λ keep. salvaged_out d z p (whole_bytes G text) (told_lines G text) [] _ sound k (sym (append-nil (whole_bytes G text))) refl w r;
+      salvaged = λ keep. salvaged_out d z p (whole_bytes G text) (told_lines G text) [] [] sound k (sym (append-nil (whole_bytes G text))) (sym (append-nil (told_lines G text))) w r;
       decoded = λ may.
           let zero = ended_none d when z p may none (λ t. left_is d z p k t ∙ ap (λ l. text ++ l) (spent t) ∙ append-nil text) in
-          decoded_out d z p (whole_bytes G text) (told_lines G text) [] _ sound k (sure_alike G text zero ∙ sym (append-nil (whole_bytes G text))) (sym (report_alike G text zero)) w r;
+          decoded_out d z p (whole_bytes G text) (told_lines G text) [] [] sound k (sure_alike G text zero ∙ sym (append-nil (whole_bytes G text))) (sym (told_alike G text zero) ∙ sym (append-nil (told_lines G text))) w r;
     })
 run_ended d when z p answer sound k none within spent steady (report_stopped is w r) =
     let G = d.form in

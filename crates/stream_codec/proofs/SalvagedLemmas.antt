@@ -101,7 +101,7 @@ salvaged_answered d z p answer sound k within spent steady h =
     (steady_end d answer is (h.wrote.faults, h.told.faults) steady)
 
 -- ---- a write that failed: fronts of the bytes and the lines of the whole groups taken
-pub salvaged_out : (d : Decode) (z p bytes told rest more : List ℕ) → IsSound d.form → Taken d z p → whole_bytes d.form (z ++ p) ≡ bytes ++ rest → salvage_report d.form (z ++ p) ≡ told ++ more → WroteSome d.out_tells d.out d.out_after bytes → Wrote d.report_tells d.report d.report_after told → SalvagedAs d (Err OutFault)
+pub salvaged_out : (d : Decode) (z p bytes told rest more : List ℕ) → IsSound d.form → Taken d z p → whole_bytes d.form (z ++ p) ≡ bytes ++ rest → told_lines d.form (z ++ p) ≡ told ++ more → WroteSome d.out_tells d.out d.out_after bytes → Wrote d.report_tells d.report d.report_after told → SalvagedAs d (Err OutFault)
 salvaged_out d z p bytes told rest more sound k e f w r =
     let part = some_of_longer rest (whole_bytes d.form (z ++ p)) w e in
     salvaged_as d (Err OutFault) (out_bounds d z p bytes told sound k w r)
@@ -109,7 +109,7 @@ salvaged_out d z p bytes told rest more sound k e f w r =
       left = were_taken d z p k t;
       out = subst (λ l. GivesFront d.out_tells d.out d.out_after (whole_bytes d.form l)) (sym same) part.gives;
       fewer = subst (λ l. GivesLess d.out_tells d.out d.out_after (whole_bytes d.form l)) (sym same) part.fewer;
-      report = subst (λ l. GivesFront d.report_tells d.report d.report_after (salvage_report d.form l)) (sym same) (gave_front more (salvage_report d.form (z ++ p)) r f);
+      report = subst (λ l. GivesFront d.report_tells d.report d.report_after (told_lines d.form l)) (sym same) (gave_front more (told_lines d.form (z ++ p)) r f);
     })
     (λ group word is. absurd (cc))
     (r.faults, w.rose, w.enough)

@@ -17,7 +17,7 @@
 --                 the whole groups within the limit was given, and the lines of these groups were told
 -- SalvageStops    InputFault: the same of the whole groups of the bytes taken
 -- SalvageOutStops, SalvageReportStops   OutFault, ReportFault: fronts of the bytes and the lines of the whole groups
---                 taken, one of them not all
+--                 taken, one of them not all; after OutFault none of the last lines was told
 -- SalvagedToldAs  what each answer says of a source that tells its bytes, and of the sinks that tell theirs
 -- SalvagedAs      .. and what it says in any case, as for a call that decodes
 -- plain           the answer of a call that decodes
@@ -123,7 +123,7 @@ pub record SalvageOutStops (d : Decode) : Type 0 where
   pub left : WereTaken d.source d.source_after
   pub out : GivesFront d.out_tells d.out d.out_after (whole_bytes d.form (taken d))
   pub fewer : GivesLess d.out_tells d.out d.out_after (whole_bytes d.form (taken d))
-  pub report : GivesFront d.report_tells d.report d.report_after (salvage_report d.form (taken d))
+  pub report : GivesFront d.report_tells d.report d.report_after (told_lines d.form (taken d))
 
 pub record SalvageReportStops (d : Decode) : Type 0 where
   pub left : WereTaken d.source d.source_after

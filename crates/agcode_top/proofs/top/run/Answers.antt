@@ -1,5 +1,5 @@
 use Rattle.agcode_top.proofs.StillLemmas.{run-quiet, run-early, run-unread, run-line, run-usage_line, run-taken, run-number, run-kept}
-use Rattle.agcode_top.proofs.CauseLemmas.{run-usage, run-own, run-desc_fault, run-input_fault, run-out_fault, run-report_fault, run-descriptor, run-refused, run-complete}
+use Rattle.agcode_top.proofs.CauseLemmas.{run-usage, run-own, run-desc_fault, run-input_fault, run-out_fault, run-report_fault, run-descriptor, run-refused, run-accepted, run-complete}
 use Rattle.agcode_top.proofs.AnswerLemmas.{run-answer, run-exactly, run-part, run-untold}
 use Rattle.agcode_top.proofs.HeadlineLemmas.{run-encode, run-repair, run-reading, run-encoded, run-decoded, run-salvaged, run-rescue, run-salvages}
 use Rattle.agcode_top.proofs.top.run.Goals as goal
@@ -27,6 +27,9 @@ returns-clause-descriptor g c = run-descriptor _ _ _ c.obey-status.ensures.leave
 
 pub returns-clause-refused : goal.returns-clause-refused
 returns-clause-refused g c = run-refused _ _ _ c.obey-status.ensures.leaves
+
+pub returns-clause-accepted : goal.returns-clause-accepted
+returns-clause-accepted g c = run-accepted _ _ _ c.obey-status.ensures.leaves
 
 pub returns-clause-encode : goal.returns-clause-encode
 returns-clause-encode g c = run-encode _ _ _ (g.R.Sink.view c.tell.new.report) c.obey-status.ensures.leaves
