@@ -19,7 +19,7 @@ taken_word bits n word places h = record {
 }
 
 module _ (c : Compiled) (h : IsMade c) (got : List ℕ) (long : length got ≡ c.basis.n) (bits : ℕ) (low : List ℕ) (is : low ≡ low_bits bits got) (e : bits ≡ c.basis.bits) where
-  low_is_word : IsWord c.basis.bits c.basis.n low
+  pub low_is_word : IsWord c.basis.bits c.basis.n low
   low_is_word = subst (λ (xs : List ℕ). IsWord c.basis.bits c.basis.n xs) (sym (is ∙ ap (λ (m : ℕ). low_bits m got) e)) (low_word c.basis.bits c.basis.n got long)
 
   -- each message place is a position

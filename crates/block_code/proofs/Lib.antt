@@ -2,3 +2,5 @@ mod Made
 mod Membership
 mod Verdicts
 mod Again
+mod Differences
+mod Pursuing

@@ -31,6 +31,13 @@ fitted P v c b same fits h =
     (subst (λ (m : List Bool). P c.basis m v.t) (ap (λ (n : BenchNumbers). n.marks) fits)
     (subst (λ (x : Basis). P x v.marks v.t) same h))
 
+-- what is settled by equal numbers and lists
+pub settled_at : {bits radius bits' radius' : ℕ} {err err' : List ℕ} (got word : List ℕ) (v : Verdict) → bits ≡ bits' → radius ≡ radius' → err ≡ err' → IsSettled bits radius got err word v → IsSettled bits' radius' got err' word v
+settled_at {bits} {radius} {bits'} {radius'} {err} {err'} got word v e f m h =
+    subst (λ (b : ℕ). IsSettled b radius' got err' word v) e
+    (subst (λ (t : ℕ). IsSettled bits t got err' word v) f
+    (subst (λ (xs : List ℕ). IsSettled bits radius got xs word v) m h))
+
 module _ (c : Compiled) (h : IsMade c) (got : List ℕ) (long : length got ≡ c.basis.n) where
   low : List ℕ
   low = low_bits c.basis.bits got

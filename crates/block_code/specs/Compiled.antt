@@ -12,6 +12,7 @@ use Rattle.coded_block.specs.Codes.{BenchNumbers}
 use Rattle.block_theory.specs.Checks.{ParityChecks}
 use Rattle.block_theory.specs.Marked.{checks_of}
 use Rattle.block_theory.specs.Blocks.{form_of}
+use Rattle.product_classes.specs.Table.{ClassTable, AreClassesOf, HasColumns}
 
 pub record Compiled : Type 0 where
   pub basis : Basis
@@ -28,9 +29,11 @@ pub record IsMade (c : Compiled) : Type 0 where
   pub bound : IsOrderBound c.basis c.marks c.bound
   pub radius : IsRadius c.bound c.radius
 
-pub record IsKept (parity : ParityChecks) (c : Compiled) : Type 0 where
+pub record IsKept (parity : ParityChecks) (classes : ClassTable) (c : Compiled) : Type 0 where
   pub parity_is : parity ≡ checks_in c
   pub made : IsMade c
+  pub classes_are : AreClassesOf c.basis classes
+  pub columns : HasColumns c.basis classes
 
 abbrev pub numbers_of : Compiled → BenchNumbers
 numbers_of c = record { bits = c.basis.bits; modulus = c.basis.modulus; n = c.basis.n; marks = c.marks; radius = c.radius }

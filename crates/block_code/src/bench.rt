@@ -2,7 +2,6 @@
 
 ghost use Rattle.std.specs.Prelude.{ℕ, ◌≡◌, ◌+◌, ◌<◌, ◌≤◌, ◌*◌, [], List, All, length, IfOk};
 ghost use Rattle.order_theory.specs.Basis.{IsSoundBasis};
-ghost use Rattle.vote_core.specs.Voters.{Fits};
 ghost use Rattle.block_code.specs.Benches.{is_near as is_near_of};
 ghost use Rattle.block_code.specs.Compiled.{IsMade, numbers_of};
 ghost use Rattle.block_code.specs.Decoding.{IsVerdict, ledger_after};
@@ -14,13 +13,15 @@ use error_guess::Guess;
 use gf_field::Field;
 use std::alloc::{AllocError, Global};
 use std::marker::Model;
-use vote_core::{VoteLine, Voter};
+use vote_core::{Poll, VoteLine};
 
 /// The memory to decode one block at a time. Contracts see what it keeps of the code that it was made for, and its ledger.
 #[derive(Drop)]
 pub struct Bench {
-    voter: Voter,
+    poll: Poll,
     guess: Guess,
+    // room for the sum of a block and a codeword
+    differences: Vec<u8>,
     // room for a message
     msg: Vec<u8>,
     // whether the last block was near a codeword, and its ledger was asked for
@@ -35,9 +36,10 @@ impl Model for Bench {
     ghost use Rattle.std.specs.Prelude.{length};
     ghost use Rattle.block_code.specs.Benches.{state_of, PartsFit};
 
-    ghost view = { λ s. state_of s.voter s.told };
+    ghost view = { λ s. state_of s.poll.voter s.told };
 
-    ghost invariant = { λ s. PartsFit s.voter (length s.msg.items) };
+    ghost invariant = { λ s. PartsFit s.poll s.guess
+        (length s.differences.items) (length s.msg.items) };
 }
 
 fn is_near(verdict: Verdict) -> bool
@@ -54,12 +56,13 @@ impl Bench {
     pub fn new<F: Field>(alloc: Global, code: &Code<F>) -> Result<Bench, AllocError>
         ensures { IfOk result (λ b. b ≡ record { numbers = numbers_of code.now; ledger = [] }) }
     {
-        let voter = Voter::new(alloc, code.basis(), code.checked(), code.radius())?;
-        let guess = Guess::new(alloc, code.outline(), code.radius())?;
+        let (basis, radius) = (code.basis(), code.radius());
+        let n = code.n() as usize;
         Ok(Bench {
-            voter,
-            guess,
-            msg: vec![in alloc; 0; code.n() as usize]?,
+            poll: Poll::new(alloc, basis, n * n + 15, code.checked(), radius)?,
+            guess: Guess::new(alloc, basis, code.classes().first(), radius)?,
+            differences: vec![in alloc; 0; n]?,
+            msg: vec![in alloc; 0; n]?,
             told: false,
         })
     }
@@ -69,7 +72,7 @@ impl Bench {
     pub fn ledger(&self) -> &[VoteLine]
         ensures { result.now ≡ self.now.ledger }
     {
-        if self.told { self.voter.ledger() } else { &[] }
+        if self.told { self.poll.ledger() } else { &[] }
     }
 
     // As `Code::decode_block` says.
@@ -88,7 +91,7 @@ impl Bench {
         ensures majority { All (λ line. line.wrong < line.right) self.new.ledger }
         ensures made { IsMade code.now }
     {
-        let verdict = find_near(&mut self.voter, code, got, word);
+        let verdict = find_near(&mut self.poll, &mut self.differences, code, got, word);
         self.told = is_near(verdict);
         verdict
     }
@@ -109,11 +112,12 @@ impl Bench {
     {
         self.told = false;
         repair_near(
-            &mut self.voter,
+            &mut self.poll,
             &mut self.guess,
-            &mut self.msg,
             code,
             got,
+            &mut self.differences,
+            &mut self.msg,
             word,
         )
     }

@@ -8,19 +8,21 @@ ghost use Rattle.eval_basis.specs.Rules.{checked_by};
 ghost use Rattle.eval_basis.specs.Built.{IsBuilt};
 ghost use Rattle.eval_basis.specs.Members.{AreAllChecked};
 ghost use Rattle.block_theory.specs.Checks.{message_places, IsWordOf};
+ghost use Rattle.product_classes.specs.Table.{AreClassesOf, HasColumns};
 ghost use Rattle.block_theory.specs.Blocks.{word_of};
+ghost use Rattle.block_code.specs.Benches.{values_of};
 ghost use Rattle.block_code.specs.Compiled.{checks_in, IsMade, numbers_of};
 ghost use Rattle.block_code.specs.Decoding.{IsVerdict, ledger_after};
 
 use crate::bench::Bench;
 use ag_pool::Workers;
 use coded_block::Verdict;
-use error_guess::Outline;
 use eval_basis::{CheckRule, Checked, EvalBasis};
 use gf_field::Field;
 use order_bound::bound;
 use order_domain::{OrderDomain, Points};
 use parity_space::Parity;
+use product_classes::Classes;
 use std::alloc::{AllocError, Global};
 use std::marker::Model;
 use std::thread::Threads;
@@ -52,7 +54,7 @@ pub struct Code<F: Field> {
     basis: EvalBasis<F>,
     checked: Checked,
     parity: Parity,
-    outline: Outline,
+    classes: Classes,
     bound: u32,
     radius: u32,
 }
@@ -69,7 +71,7 @@ impl<F: Field> Model for Code<F> {
       radius = s.radius;
     } };
 
-    ghost invariant = { λ s. IsKept s.parity (record {
+    ghost invariant = { λ s. IsKept s.parity s.classes (record {
       basis = s.basis;
       marks = s.checked;
       bound = s.bound;
@@ -83,6 +85,31 @@ fn radius_of(bound: u32) -> u32
     ensures { IsRadius bound result }
 {
     (bound - 1) / 2
+}
+
+// The index below which the sums of all members are known: that of the first member that is not checked.
+fn known_below<F: Field>(basis: &EvalBasis<F>, checked: &Checked) -> u32
+    requires { length checked.now ≡ basis.now.n }
+    ensures { result ≤ basis.now.count }
+{
+    for k in 0..basis.n() {
+        if !checked.holds(k) {
+            return basis.rank_at(k);
+        }
+    }
+    basis.count()
+}
+
+// The first position that is no message place, n where all are.
+fn first_check(places: &[u32], n: u32) -> u32
+    ensures { result ≤ n }
+{
+    for p in 0..n {
+        if places.get(p as usize) != Some(&p) {
+            return p;
+        }
+    }
+    n
 }
 
 impl<F: Field> Code<F> {
@@ -118,12 +145,14 @@ impl<F: Field> Code<F> {
         };
         let parity = Parity::build(alloc, &basis, &checked)?;
         let radius = radius_of(least);
-        let outline = Outline::new(alloc, &basis, &checked, parity.places())?;
+        let limit = known_below(&basis, &checked);
+        let first = first_check(parity.places(), basis.n());
+        let classes = Classes::new(alloc, &basis, limit, first)?;
         Ok(Code {
             basis,
             checked,
             parity,
-            outline,
+            classes,
             bound: least,
             radius,
         })
@@ -191,9 +220,15 @@ impl<F: Field> Code<F> {
         &self.parity
     }
 
-    // What guesses need of it.
-    pub(crate) fn outline(&self) -> &Outline {
-        &self.outline
+    // The classes of equal products of the basis.
+    pub(crate) fn classes(&self) -> &Classes
+        ensures classes { AreClassesOf self.now.basis result.now }
+        ensures columns { HasColumns self.now.basis result.now }
+        ensures few { result.now.size ≤ values_of self.now.basis.n }
+    {
+        // For its facts: there are few.
+        self.classes.len();
+        &self.classes
     }
 
     /// The field of the basis.

@@ -9,6 +9,7 @@ use block_code::{Bench, BlockCode, Code, CompileFault, Verdict, VoteLine};
 use cab_curve::{CabDomain, Curve, Point, Term};
 use eval_basis::CheckRule;
 use gf_field::{Field, PolyField};
+use gf_tables::TableField;
 use order_domain::{OrderDomain, Points};
 use std::alloc::Global;
 use std::thread::Threads;
@@ -94,6 +95,48 @@ pub fn made<X: Threads + Sync>(
     rule: CheckRule,
 ) -> Option<Code<PolyField>> {
     compiled(rt, alloc, points, rule)?.ok()
+}
+
+// The code of a curve at all its points.
+fn at_all_points<X: Threads + Sync, F: Field + Sync>(
+    rt: &X,
+    alloc: Global,
+    f: F,
+    curve: Curve,
+    weight: u32,
+) -> Option<Code<F>> {
+    let bits = f.bits();
+    if curve.bits() != bits {
+        return None;
+    }
+    let points = Points::of(curve.all_points(alloc, &f).ok()?)?;
+    let dom = CabDomain::new(alloc, curve, bits).ok()?;
+    compiled_on(rt, alloc, f, &dom, &points, CheckRule::AtMost { weight })?.ok()
+}
+
+/// The code of the curve `y^4 + y = c x^5` over GF(16) at all its points, which are 64 where c is a cube root of 1; it corrects
+/// ten symbols then.
+pub fn middle<X: Threads + Sync>(rt: &X, alloc: Global, c: u8) -> Option<Code<PolyField>> {
+    let f = PolyField::new(4, 19)?;
+    let terms = [
+        Term { i: 0, j: 4, c: 1 },
+        Term { i: 0, j: 1, c: 1 },
+        Term { i: 5, j: 0, c },
+    ];
+    let curve = Curve::new(alloc, &f, 4, 5, &terms).ok()?;
+    at_all_points(rt, alloc, f, curve, 31)
+}
+
+/// The code of the curve `y^8 + y = x^9` over GF(64) at its 512 points, which corrects a hundred symbols.
+pub fn large<X: Threads + Sync>(rt: &X, alloc: Global) -> Option<Code<TableField>> {
+    let f = TableField::new(alloc, &PolyField::new(6, 67)?).ok()?;
+    let terms = [
+        Term { i: 0, j: 8, c: 1 },
+        Term { i: 0, j: 1, c: 1 },
+        Term { i: 9, j: 0, c: 1 },
+    ];
+    let curve = Curve::new(alloc, &f, 8, 9, &terms).ok()?;
+    at_all_points(rt, alloc, f, curve, 255)
 }
 
 /// Why there is no code at all points.

@@ -1,4 +1,3 @@
-pub mod Rows
-pub mod Echelons
-pub mod Outlines
+pub mod Guesses
 pub mod Rooms
+pub mod Kept

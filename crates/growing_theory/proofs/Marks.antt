@@ -13,10 +13,6 @@ use Rattle.linear_theory.proofs.Corners.{put_entry-rank_same, candidate_value}
 use Rattle.linear_theory.proofs.Wrongs.{part_rank, row_wrongs}
 use Rattle.growing_theory.specs.Pivots.{ArePivots}
 
--- fewer columns
-pub combination_narrow : {mul : ℕ → ℕ → ℕ} {n : ℕ} {rows : ℕ → ℕ → ℕ} {r : ℕ} {v : ℕ → ℕ} (m : ℕ) → m ≤ n → IsCombination mul n rows r v → IsCombination mul m rows r v
-combination_narrow m l h = record { factors = h.factors; is_sum = λ j u. h.is_sum j (omega arith) }
-
 abbrev one_if : Bool → ℕ
 one_if b = cond b 1 0
 
@@ -121,15 +117,15 @@ module _ (size : ℕ) (mul : ℕ → ℕ → ℕ) (field : IsField size mul) whe
     reduced_below i j = xor_below size mul field (S i j) (W i j) (s i j) (w i j)
 
     -- each row is a combination of the reduced rows down to it
-    unreduced : (m r : ℕ) → m ≤ n → r ≤ n → (p : ℕ) → p < r → IsCombination mul m reduced r (S p)
-    unreduced m zero lm lr p lp = absurd (omega arith)
-    unreduced m (suc r) lm lr p lp = elim (eq_or_below p r lp) [
-      | inr u ↦ combination_more size mul field (unreduced m r lm (omega arith) p u)
+    unreduced : (m r : ℕ) → m ≤ n → r ≤ n → ((p : ℕ) → p < r → m ≤ known p) → (p : ℕ) → p < r → IsCombination mul m reduced r (S p)
+    unreduced m zero lm lr all p lp = absurd (omega arith)
+    unreduced m (suc r) lm lr all p lp = elim (eq_or_below p r lp) [
+      | inr u ↦ combination_more size mul field (unreduced m r lm (omega arith) (λ q l. all q (omega arith)) p u)
       | inl e ↦
           subst (λ (q : ℕ). IsCombination mul m reduced (suc r) (S q)) (sym e)
           (combination_same size mul field (S r)
           (combination_xor size mul field (combination_last size mul field m reduced r (reduced_below r))
-          (combination_more size mul field (combination_through size mul field m S r reduced r (W r) (λ q l. unreduced m r lm (omega arith) q l) (combination_narrow m lm (h.corrected r (omega arith))))))
+          (combination_more size mul field (combination_through size mul field m S r reduced r (W r) (λ q l. unreduced m r lm (omega arith) (λ v u. all v (omega arith)) q l) (h.corrected r m (omega arith) lm (λ q l. all q (omega arith))))))
           (λ j l. xor_back (S r j) (W r j)))
     ]
 
@@ -145,8 +141,8 @@ module _ (size : ℕ) (mul : ℕ → ℕ → ℕ) (field : IsField size mul) whe
         (λ p lp m. h.before p (pivot i) (omega arith) (let u : known i ≤ known p = near p (omega arith) in omega arith) m)
         (λ p lp e. let u : i ≡ p = h.apart i p li (omega arith) (omega arith) (sym e) in omega arith)
         l
-        (combination_through size mul field j S i reduced i (reduced i) (λ p lp. unreduced j i (omega arith) (omega arith) p lp)
-        (combination_xor size mul field k (combination_narrow j (omega arith) (h.corrected i li))))
+        (combination_through size mul field j S i reduced i (reduced i) (λ p lp. unreduced j i (omega arith) (omega arith) (λ q u. let v : known i ≤ known q = near q (omega arith) in omega arith) p lp)
+        (combination_xor size mul field k (h.corrected i j li (omega arith) (λ q u. let v : known i ≤ known q = near q (omega arith) in omega arith))))
 
     -- before its pivot a row is its own correction
     pub row_correction : (i j : ℕ) → i < n → j < known i → j < pivot i → S i j ≡ W i j
@@ -156,7 +152,7 @@ module _ (size : ℕ) (mul : ℕ → ℕ → ℕ) (field : IsField size mul) whe
     pub row_old : (i j : ℕ) → i < n → j ≤ known i → j ≤ pivot i → IsCombination mul j S i (S i)
     row_old i j li lj l =
         let wide : known i ≤ n = h.width i li in
-        combination_same size mul field (S i) (combination_narrow j (omega arith) (h.corrected i li)) (λ q lq. sym (row_correction i q li (omega arith) (omega arith)))
+        combination_same size mul field (S i) (h.corrected i j li (omega arith) (λ q u. let v : known i ≤ known q = h.falls q i (omega arith) li in omega arith)) (λ q lq. sym (row_correction i q li (omega arith) (omega arith)))
 
     -- the rank of the first rows and columns, as far as they are known, is the number of pivots in them
     pub rank_pivots : (i j : ℕ) → i ≤ n → ((p : ℕ) → p < i → j ≤ known p) → rank size mul j S i ≡ count_below i (λ p. ltb (pivot p) j)
@@ -200,7 +196,7 @@ module _ (size : ℕ) (mul : ℕ → ℕ → ℕ) (field : IsField size mul) whe
     residue_value i j li lj lw all er ec =
         let low : j ≤ pivot i = (row_candidate i j li lj).0 er in
         let fits : IsCombination mul (suc j) S i (put (S i) j (W i j)) =
-        combination_same size mul field (put (S i) j (W i j)) (combination_narrow (suc j) (omega arith) (h.corrected i li))
+        combination_same size mul field (put (S i) j (W i j)) (h.corrected i (suc j) li (omega arith) all)
         (λ q l. elim (eq_or_below q j l) [
           | inl e ↦ subst (λ (k : ℕ). W i k ≡ put (S i) j (W i j) k) (sym e) (sym (put-same (S i) j (W i j)))
           | inr m ↦ sym (row_correction i q li (omega arith) (omega arith)) ∙ sym (put-other (S i) j (W i j) q (omega arith))

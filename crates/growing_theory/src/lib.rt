@@ -1,2 +1,2 @@
-//! Matrices that become known along sums: what the pivots say of the ranks. Definitions in `specs/`, lemmas in `proofs/`.
+//! Matrices that become known row by row: what the pivots say of the ranks. Definitions in `specs/`, lemmas in `proofs/`.
 #![tactic(auto)]

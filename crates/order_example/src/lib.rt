@@ -24,6 +24,10 @@ mod grown;
 #[cfg(test)]
 mod rig;
 #[cfg(test)]
+mod searched;
+#[cfg(test)]
+mod structured;
+#[cfg(test)]
 mod tests;
 #[cfg(test)]
 mod voters;

@@ -14,12 +14,12 @@ use vote_core::{Found, VoteLine, Voter};
 
 // A code, and a number of changes that it corrects.
 #[derive(Drop)]
-struct SmallCode {
-    basis: EvalBasis<PolyField>,
-    checked: Checked,
+pub struct SmallCode {
+    pub basis: EvalBasis<PolyField>,
+    pub checked: Checked,
     // a member that is not checked
-    free: u32,
-    t: u32,
+    pub free: u32,
+    pub t: u32,
     ghost marks: { length checked ≡ basis.n },
     ghost inside: { free < basis.n },
     ghost is_free: { marked checked free ≡ false },
@@ -72,30 +72,30 @@ fn free_in_code(basis: &EvalBasis<PolyField>, checked: &Checked, t: u32) -> Opti
     free_member(basis, checked)
 }
 
-// Some of the points of the small curve, the greatest label that is checked, and the radius.
+/// Some of the points of the small curve, the greatest label that is checked, and the radius.
 #[derive(Clone, Copy)]
-struct Kind {
+pub struct Kind {
     points: u32,
     weight: u32,
     t: u32,
 }
 
-// The code of eight points that corrects two changes.
-const STRONG: Kind = Kind {
+/// The code of eight points that corrects two changes.
+pub const STRONG: Kind = Kind {
     points: 8,
     weight: 5,
     t: 2,
 };
 
-// The code at the first five points, which corrects one change.
-const SHORT: Kind = Kind {
+/// The code at the first five points, which corrects one change.
+pub const SHORT: Kind = Kind {
     points: 5,
     weight: 3,
     t: 1,
 };
 
-// The code that is checked by one sum alone, and corrects nothing.
-const WEAK: Kind = Kind {
+/// The code that is checked by one sum alone, and corrects nothing.
+pub const WEAK: Kind = Kind {
     points: 8,
     weight: 0,
     t: 0,
@@ -111,29 +111,63 @@ fn small_basis<X: Threads + Sync>(
     on_curve(rt, alloc, small_terms(), points.get(..count as usize)?)
 }
 
-// The code of a kind.
-fn small_code<X: Threads + Sync>(rt: &X, alloc: Global, kind: Kind) -> Option<SmallCode> {
-    let basis = small_basis(rt, alloc, kind.points)?;
-    let rule = CheckRule::AtMost {
-        weight: kind.weight,
-    };
-    let checked = Checked::new(alloc, &basis, rule).ok()?;
-    let free = free_in_code(&basis, &checked, kind.t)?;
+/// The code of a basis that checks labels up to a weight, where it corrects t changes.
+pub fn code_of(
+    alloc: Global,
+    basis: EvalBasis<PolyField>,
+    weight: u32,
+    t: u32,
+) -> Option<SmallCode> {
+    let checked = Checked::new(alloc, &basis, CheckRule::AtMost { weight }).ok()?;
+    let free = free_in_code(&basis, &checked, t)?;
     Some(SmallCode {
         basis,
         checked,
         free,
-        t: kind.t,
+        t,
     })
 }
 
-// What a voter says of a word: whether there is an error, which, and for each line of the votes its label, its pairs, and
-// the right and the wrong candidates.
+/// The code of a kind.
+pub fn small_code<X: Threads + Sync>(rt: &X, alloc: Global, kind: Kind) -> Option<SmallCode> {
+    code_of(
+        alloc,
+        small_basis(rt, alloc, kind.points)?,
+        kind.weight,
+        kind.t,
+    )
+}
+
+/// What a voter says of a word: whether there is an error, which, and for each line of the votes its label, its pairs, and
+/// the right and the wrong candidates.
 #[derive(Drop)]
-struct Says {
+pub struct Says {
     is_found: bool,
     err: Vec<u8>,
     lines: Vec<[u32; 4]>,
+}
+
+impl Says {
+    /// Whether there is an error that leads a word to this one.
+    pub fn leads_to(&self, got: &[u8], word: &[u8]) -> bool {
+        let mut pairs = self.err.iter().zip(got).zip(word);
+        self.is_found && self.err.len() == word.len() && pairs.all(|((e, x), y)| e ^ x == *y)
+    }
+
+    /// Whether there is none, and no line of a vote.
+    pub fn is_far(&self) -> bool {
+        !self.is_found && self.lines.is_empty()
+    }
+
+    /// How many symbols the error has.
+    pub fn weight(&self) -> usize {
+        self.err.iter().filter(|x| **x != 0).count()
+    }
+
+    /// How many lines have a wrong candidate.
+    pub fn wrong_lines(&self) -> usize {
+        self.lines.iter().filter(|line| line[3] > 0).count()
+    }
 }
 
 // Whether the voter finds an error, which it writes.
@@ -181,7 +215,8 @@ fn told_by(
     })
 }
 
-fn voter_says(alloc: Global, code: &SmallCode, got: &[u8]) -> Result<Says, AllocError>
+/// What the voter says of a word.
+pub fn voter_says(alloc: Global, code: &SmallCode, got: &[u8]) -> Result<Says, AllocError>
     requires { length got.now ≡ code.now.basis.n }
 {
     let err = vec![in alloc; 0; got.len()]?;
@@ -217,8 +252,8 @@ fn plain_voter_says(alloc: Global, code: &SmallCode, got: &[u8]) -> Result<Says,
     }
 }
 
-// What both voters say of a word, where they say the same.
-fn both_say(alloc: Global, code: &SmallCode, got: &[u8]) -> Result<Option<Says>, AllocError>
+/// What both voters say of a word, where they say the same.
+pub fn both_say(alloc: Global, code: &SmallCode, got: &[u8]) -> Result<Option<Says>, AllocError>
     requires { length got.now ≡ code.now.basis.n }
 {
     let fast = voter_says(alloc, code, got)?;

@@ -1,22 +1,15 @@
 -- How the working list takes on the syndromes of the error
-use Rattle.std.proofs.Common.{ℕ, ◌≡◌, ◌≢◌, suc, ◌+◌, ◌*◌, ◌^◌, ◌<◌, ◌≤◌, Bool, true, false, List, length, get_or, sym, ◌∙◌, ap, subst, inl, inr, arith, bit_xor}
-use Rattle.std.specs.Int.Bits.{xor_self}
-use Rattle.std.specs.Prelude.{replicate, All}
-use Rattle.std.proofs.lemmas.Bool.{cases_lt}
-use Rattle.std.proofs.lemmas.Nat.{pow_pos}
-use Rattle.std.proofs.lemmas.List.{get_or_default, get_or-replicate, get_or_past, length-replicate}
-use Rattle.field_theory.proofs.Sums.{xor_below, xor_same, eq_or_below, sum-zero, zero-mul}
-use Rattle.order_theory.specs.Basis.{Basis, IsSoundBasis, IsWord, times, vector, label, pairs_at}
-use Rattle.order_theory.specs.Errors.{syndrome, weight, right_at, wrong_at, pivots_at}
-use Rattle.order_theory.specs.Codes.{IsBound, marked, list_sum}
+use Rattle.std.proofs.Common.{ℕ, ◌≡◌, ◌≢◌, suc, ◌+◌, ◌*◌, ◌^◌, ◌<◌, ◌≤◌, Bool, true, false, List, get_or, sym, ◌∙◌, ap, subst, inl, inr, arith, bit_xor}
+use Rattle.field_theory.proofs.Sums.{xor_below, eq_or_below}
+use Rattle.order_theory.specs.Basis.{Basis, IsSoundBasis, IsWord, times, label, pairs_at}
+use Rattle.order_theory.specs.Errors.{syndrome, weight, right_at, wrong_at}
+use Rattle.order_theory.specs.Codes.{IsBound, marked}
 use Rattle.order_theory.specs.Course.{IsErrorOf, IsMoved}
-use Rattle.order_theory.specs.Laws.{VotesCounted, VotesOn}
+use Rattle.order_theory.specs.Laws.{VotesCounted}
 use Rattle.order_theory.specs.Voting.{SameBelow, votes_at}
 use Rattle.order_theory.proofs.Distances.{syn_below}
 use Rattle.order_theory.proofs.Errors.{error_agrees}
-use Rattle.order_theory.proofs.Shape.{word_below}
-use Rattle.order_theory.proofs.Weights.{length-list_sum, get_or-list_sum}
-use Rattle.order_theory.proofs.Theorems.{syndrome_sum, election_law, moved_on, step_law, syndrome_law, count_law, error_law, majority_law}
+use Rattle.order_theory.proofs.Theorems.{election_law, moved_on, step_law, syndrome_law, count_law}
 use Rattle.vote_core.specs.declared.ledger.VoteLine.{VoteLine}
 use Rattle.vote_core.specs.Ledgers.{line_of}
 use Rattle.vote_core.specs.Turns.{IsTurn}
@@ -61,15 +54,3 @@ module _ (b : Basis) (marks : List Bool) (t : ℕ) (y e w w' : List ℕ) (k : �
       let right : line.right ≡ right_at (times b) b e k = turn.line_right ∙ ap (λ (v : ℕ). votes_at (times b) b w k v) winner_is ∙ counted.right_ones in
       let wrong : line.wrong ≡ wrong_at (times b) b e k = omega (arith, turn.line_all, counted.all) in
       line_is line (label b k) (pairs_at b k) (right_at (times b) b e k) (wrong_at (times b) b e k) turn.line_label turn.line_pairs right wrong
-
-  -- so the line rules no error out that is not too heavy
-  pub turn_within : line.pairs + line.wrong ≤ line.right + 2 * t
-  turn_within =
-      let votes : VotesOn (times b) b e k = majority_law (times b) b e k h.sound x.is_word lk in
-      let light : weight e ≤ t = x.light in
-      let pairs : line.pairs ≡ pairs_at b k = ap (λ (l : VoteLine). l.pairs) turn_line in
-      let right : line.right ≡ right_at (times b) b e k = ap (λ (l : VoteLine). l.right) turn_line in
-      let wrong : line.wrong ≡ wrong_at (times b) b e k = ap (λ (l : VoteLine). l.wrong) turn_line in
-      let known : pairs_at b k ≤ right_at (times b) b e k + wrong_at (times b) b e k + 2 * pivots_at (times b) b e k = votes.pairs_bound in
-      let few : pivots_at (times b) b e k + wrong_at (times b) b e k ≤ weight e = votes.weight_bound in
-      omega arith

@@ -1,186 +1,158 @@
--- The settled part of a matrix, as it grows along sums
-use Rattle.std.proofs.Common.{ℕ, ◌≡◌, ◌≢◌, suc, ◌+◌, ◌^◌, ◌<◌, ◌≤◌, ◌⊎◌, List, sym, ◌∙◌, ap, subst, inl, inr, arith}
+-- The known part of a matrix, as it grows along sums
+use Rattle.std.proofs.Common.{ℕ, ◌≡◌, ◌≢◌, zero, suc, ◌+◌, ◌^◌, ◌<◌, ◌≤◌, List, sym, ◌∙◌, ap, subst, inl, inr, arith, length}
 use Rattle.std.specs.Prelude.{slice_index}
 use Rattle.std.proofs.lemmas.Bool.{cases_eq, cases_lt}
-use Rattle.gf_theory.specs.Field.{IsModulus}
+use Rattle.std.proofs.lemmas.List.{get_or-set_same, get_or-set_other, get_or-replicate, length-replicate, length-set}
 use Rattle.field_theory.proofs.Sums.{eq_or_below}
 use Rattle.order_theory.specs.Basis.{Basis, IsSoundBasis, IsWord, times, sum_at, rank_at}
 use Rattle.order_theory.specs.Errors.{entry}
 use Rattle.order_theory.specs.Voting.{SameBelow}
+use Rattle.order_theory.proofs.Distances.{entries_below}
 use Rattle.order_theory.proofs.Theorems.{known_law}
-use Rattle.vote_matrix.specs.Matrix.{Matrix, IsSettled, MaySettle, IsSound, cell, nothing_settled, settled_at}
-use Rattle.vote_matrix.proofs.Settling.{sound_nothing, nothing_known, sound_settled, reach_here, reach_there, entry_here, entry_there}
-use Rattle.vote_core.specs.Advance.{IsAdvanced}
+use Rattle.vote_matrix.specs.Elimination.{Elimination, IsEliminationOf, IsEmpty, Grows}
+use Rattle.vote_matrix.proofs.Same.{elimination_same}
+use Rattle.vote_core.specs.Reading.{IsWidth, IsSettled, IsRead}
 
 -- a smaller pair has a smaller sum
 pub smaller : (b : Basis) (i j p q : ℕ) → IsSoundBasis b → i < b.n → j < b.n → p ≤ i → q ≤ j → p + q < i + j → sum_at b i j < b.count → sum_at b p q < sum_at b i j
 smaller b i j p q h li lj lp lq l few = h.sound.sums_order.rise.rises i j p q li lj lp lq l few
 
--- at first nothing is settled
-pub advanced_none : (b : Basis) (w : List ℕ) (m : Matrix) (s bits modulus n : ℕ) → IsSoundBasis b → bits ≡ b.bits → modulus ≡ b.modulus → n ≡ b.n → m ≡ nothing_settled bits modulus n → IsAdvanced b w m s 0
-advanced_none b w m s bits modulus n h e1 e2 e3 e =
-    let none : (p q : ℕ) → IsSettled m p q → ⊥ = λ p q l.
-    let f : q < slice_index (nothing_settled bits modulus n).known p = subst (λ (v : Matrix). IsSettled v p q) e l in
-    omega (arith, nothing_known bits modulus n p) in
-    let field : IsModulus bits modulus = subst (λ (x : ℕ). IsModulus x modulus) (sym e1) (subst (λ (x : ℕ). IsModulus b.bits x) (sym e2) h.modulus) in
-    let some : 1 ≤ b.n = h.sound.shape.some_members in
-    let few : b.n ≤ 1024 = h.sound.shape.few_members in
-    record {
-      bits = ap (λ (v : Matrix). v.bits) e ∙ e1;
-      modulus = ap (λ (v : Matrix). v.modulus) e ∙ e2;
-      n = ap (λ (v : Matrix). v.n) e ∙ e3;
-      sound = subst (λ (v : Matrix). IsSound v) (sym e) (sound_nothing bits modulus n field (omega arith) (omega arith));
-      entries = λ p q lp lq l. absurd (none p q l);
-      within = λ p q lp lq l. absurd (none p q l);
-      above = λ p q l lq f. absurd (omega arith);
-    }
+-- the entries of a list are symbols of the matrix
+pub entries_fit : (b : Basis) (w : List ℕ) (m : Elimination) → IsSoundBasis b → m.bits ≡ b.bits → (i j : ℕ) → entry (times b) b w i j < 2 ^ m.bits
+entries_fit b w m h e i j = subst (λ (x : ℕ). entry (times b) b w i j < 2 ^ x) (sym e) (entries_below (times b) b h.sound (slice_index w) i j)
 
--- an entry is settled with its value
-module _ (b : Basis) (w : List ℕ) (m : Matrix) (s u : ℕ) (a : IsAdvanced b w m s u) (i j x : ℕ) (li : i < b.n) (lj : j < b.n) (e : slice_index m.known i ≡ j) (next : MaySettle m i j) (l : sum_at b i j < s) (lx : x < 2 ^ b.bits) (is : x ≡ entry (times b) b w i j) where
-  row : i < m.n
-  row = let n : m.n ≡ b.n = a.n in omega arith
+-- at first nothing is known
+pub settled_none : (b : Basis) (m : Elimination) (s bits modulus n most : ℕ) → bits ≡ b.bits → modulus ≡ b.modulus → n ≡ b.n → IsEmpty bits modulus n most m → IsSettled b m s 0
+settled_none b m s bits modulus n most e1 e2 e3 e = record {
+  bits = e.bits_are ∙ e1;
+  modulus = e.modulus_is ∙ e2;
+  n = e.n_is ∙ e3;
+  long = ap (λ (xs : List ℕ). length xs) e.known ∙ length-replicate n 0 ∙ e3;
+  wide = λ p lp. let z : slice_index m.known p ≡ 0 = ap (λ (xs : List ℕ). slice_index xs p) e.known ∙ get_or-replicate n p 0 0 (omega arith) in omega arith;
+  within = λ p q lp l. let z : slice_index m.known p ≡ 0 = ap (λ (xs : List ℕ). slice_index xs p) e.known ∙ get_or-replicate n p 0 0 (omega arith) in absurd (omega arith);
+  above = λ p q l lq f. absurd (omega arith);
+}
 
-  column : j < m.n
-  column = let n : m.n ≡ b.n = a.n in omega arith
+pub read_none : (b : Basis) (w : List ℕ) (m : Elimination) (s bits modulus n most : ℕ) → IsSoundBasis b → bits ≡ b.bits → modulus ≡ b.modulus → n ≡ b.n → IsEmpty bits modulus n most m → IsRead b w m s 0
+read_none b w m s bits modulus n most h e1 e2 e3 e = record {
+  settled = settled_none b m s bits modulus n most e1 e2 e3 e;
+  matrix = e.of_all (entry (times b) b w) (λ i j. subst (λ (x : ℕ). entry (times b) b w i j < 2 ^ x) (sym e1) (entries_below (times b) b h.sound (slice_index w) i j));
+}
 
-  symbol : x < 2 ^ m.bits
-  symbol = subst (λ (y : ℕ). x < 2 ^ y) (sym a.bits) lx
+-- a greater limit
+pub settled_later : (b : Basis) (m : Elimination) (s s' i : ℕ) → s ≤ s' → IsSettled b m s i → IsSettled b m s' 0
+settled_later b m s s' i l a = record {
+  bits = a.bits;
+  modulus = a.modulus;
+  n = a.n;
+  long = a.long;
+  wide = a.wide;
+  within = λ p q lp u. let v : sum_at b p q < s = a.within p q lp u in omega arith;
+  above = λ p q u lq v. absurd (omega arith);
+}
 
-  pub put_here : slice_index (settled_at m i j x).known i ≡ j + 1
-  put_here = reach_here m i j x a.sound row column next e symbol
+-- a list with the same syndromes below k has the same matrix as far as it is known
+pub elimination_moved : (b : Basis) (w w' : List ℕ) (m : Elimination) (k i : ℕ) → IsSoundBasis b → IsWord b.bits b.n w → IsWord b.bits b.n w' → k < b.n → SameBelow (times b) b w w' k
+    → IsSettled b m (rank_at b k) i → IsEliminationOf (entry (times b) b w) m → IsEliminationOf (entry (times b) b w') m
+elimination_moved b w w' m k i h ww ww' lk same a e =
+    let n : m.n ≡ b.n = a.n in
+    elimination_same m (entry (times b) b w) (entry (times b) b w') (entries_fit b w' m h a.bits)
+    (λ p q lp lq. let l : slice_index m.known p ≤ b.n = a.wide p (omega arith) in (known_law (times b) b w w' k h.sound ww ww' lk same).before p q (omega arith) (omega arith) (a.within p q (omega arith) lq)) e
 
-  pub put_there : (p : ℕ) → p ≢ i → slice_index (settled_at m i j x).known p ≡ slice_index m.known p
-  put_there p d = reach_there m i j x a.sound row column next e symbol p d
+-- row i grows
+module _ (m m' : Elimination) (i len : ℕ) (li : i < length m.known) (g : Grows m i len m') where
+  pub known_here : slice_index m'.known i ≡ slice_index m.known i + len
+  known_here = ap (λ (xs : List ℕ). slice_index xs i) g.known ∙ get_or-set_same m.known i (slice_index m.known i + len) 0 li
 
-  -- what was settled stays so
-  pub put_grows : (p q : ℕ) → IsSettled m p q → IsSettled (settled_at m i j x) p q
-  put_grows p q t = elim (cases_eq p i) [
-    | inr d ↦ let k : slice_index (settled_at m i j x).known p ≡ slice_index m.known p = put_there p d in omega arith
-    | inl f ↦
-        let k : slice_index (settled_at m i j x).known p ≡ j + 1 = ap (λ (r : ℕ). slice_index (settled_at m i j x).known r) f ∙ put_here in
-        let k' : slice_index m.known p ≡ j = ap (λ (r : ℕ). slice_index m.known r) f ∙ e in
-        omega arith
-  ]
+  pub known_there : (p : ℕ) → p ≢ i → slice_index m'.known p ≡ slice_index m.known p
+  known_there p d = ap (λ (xs : List ℕ). slice_index xs p) g.known ∙ get_or-set_other m.known i p (slice_index m.known i + len) 0 d
 
-  pub advanced_put : IsAdvanced b w (settled_at m i j x) s 0
-  advanced_put =
-      let n : m.n ≡ b.n = a.n in
+module _ (b : Basis) (m : Elimination) (s i to : ℕ) (a : IsSettled b m s i) (li : i < b.n) (wide : IsWidth b s i to) where
+  -- row i grows to its width
+  pub settled_grown : (m' : Elimination) (len : ℕ) → slice_index m.known i + len ≡ to → Grows m i len m' → IsSettled b m' s (i + 1)
+  settled_grown m' len e g =
+      let long : length m.known ≡ b.n = a.long in
+      let here : slice_index m'.known i ≡ slice_index m.known i + len = known_here m m' i len (omega arith) g in
+      let there : (p : ℕ) → p ≢ i → slice_index m'.known p ≡ slice_index m.known p = known_there m m' i len (omega arith) g in
       record {
-        bits = a.bits;
-        modulus = a.modulus;
-        n = a.n;
-        sound = sound_settled m i j x a.sound row column next e symbol;
-        entries = λ p q lp lq u. elim (cases_eq p i) [
-          | inr d ↦ entry_there m i j x a.sound row column next e symbol p q (omega arith) (λ f g. d f) ∙ a.entries p q lp lq (let k : slice_index (settled_at m i j x).known p ≡ slice_index m.known p = put_there p d in omega arith)
-          | inl f ↦ elim (cases_eq q j) [
-            | inl g ↦ ap (λ (r : ℕ). cell m.n (settled_at m i j x).entries r q) f ∙ ap (λ (r : ℕ). cell m.n (settled_at m i j x).entries i r) g ∙ entry_here m i j x a.sound row column next e symbol ∙ is
-                ∙ sym (ap (λ (r : ℕ). entry (times b) b w r q) f ∙ ap (λ (r : ℕ). entry (times b) b w i r) g)
-            | inr d ↦ entry_there m i j x a.sound row column next e symbol p q (omega arith) (λ g k. d k)
-                ∙ a.entries p q lp lq (let k : slice_index (settled_at m i j x).known p ≡ j + 1 = ap (λ (r : ℕ). slice_index (settled_at m i j x).known r) f ∙ put_here in let k' : slice_index m.known p ≡ j = ap (λ (r : ℕ). slice_index m.known r) f ∙ e in omega arith)
-          ]
+        bits = g.bits ∙ a.bits;
+        modulus = g.modulus ∙ a.modulus;
+        n = g.n ∙ a.n;
+        long = ap (λ (xs : List ℕ). length xs) g.known ∙ length-set m.known i (slice_index m.known i + len) ∙ a.long;
+        wide = λ p lp. elim (cases_eq p i) [
+          | inr d ↦ let f : slice_index m'.known p ≡ slice_index m.known p = there p d in let l : slice_index m.known p ≤ b.n = a.wide p lp in omega arith
+          | inl f ↦ let f' : slice_index m'.known p ≡ slice_index m'.known i = ap (λ (r : ℕ). slice_index m'.known r) f in let l : to ≤ b.n = wide.inside in omega arith
         ];
-        within = λ p q lp lq u. elim (cases_eq p i) [
-          | inr d ↦ a.within p q lp lq (let k : slice_index (settled_at m i j x).known p ≡ slice_index m.known p = put_there p d in omega arith)
-          | inl f ↦ elim (cases_eq q j) [
-            | inl g ↦ let same : sum_at b p q ≡ sum_at b i j = ap (λ (r : ℕ). sum_at b r q) f ∙ ap (λ (r : ℕ). sum_at b i r) g in omega arith
-            | inr d ↦ a.within p q lp lq (let k : slice_index (settled_at m i j x).known p ≡ j + 1 = ap (λ (r : ℕ). slice_index (settled_at m i j x).known r) f ∙ put_here in let k' : slice_index m.known p ≡ j = ap (λ (r : ℕ). slice_index m.known r) f ∙ e in omega arith)
-          ]
+        within = λ p q lp u. elim (cases_eq p i) [
+          | inr d ↦ let f : slice_index m'.known p ≡ slice_index m.known p = there p d in a.within p q lp (omega arith)
+          | inl f ↦
+              let f' : slice_index m'.known p ≡ slice_index m'.known i = ap (λ (r : ℕ). slice_index m'.known r) f in
+              subst (λ (r : ℕ). sum_at b r q < s) (sym f) (wide.below q (omega arith))
         ];
-        above = λ p q lp lq v. absurd (omega arith);
+        above = λ p q lp lq u. elim (eq_or_below p i (let v : p < suc i = omega arith in v)) [
+          | inr v ↦ let f : slice_index m'.known p ≡ slice_index m.known p = there p (λ d. omega arith) in let old : q < slice_index m.known p = a.above p q v lq u in omega arith
+          | inl f ↦
+              let f' : slice_index m'.known p ≡ slice_index m'.known i = ap (λ (r : ℕ). slice_index m'.known r) f in
+              let in_row : q < to = wide.all q lq (subst (λ (r : ℕ). sum_at b r q < s) f u) in
+              omega arith
+        ];
       }
 
-module _ (b : Basis) (w : List ℕ) (m : Matrix) (s i : ℕ) (h : IsSoundBasis b) (a : IsAdvanced b w m s i) where
-  -- the next entry of row i may be settled
-  pub may_settle : (j : ℕ) → i < b.n → j < b.n → slice_index m.known i ≡ j → sum_at b i j < s → s ≤ b.count → MaySettle m i j
-  may_settle j li lj e l few = record {
-    others = λ p q lp lq d. elim (eq_or_below p i (let u : p < suc i = omega arith in u)) [
-      | inr u ↦ a.above p q u (omega arith) (let f : sum_at b p q < sum_at b i j = smaller b i j p q h li lj lp lq (omega arith) (omega arith) in omega arith)
-      | inl f ↦
-          let u : q < j = elim (eq_or_below q j (let u : q < suc j = omega arith in u)) [ inl g ↦ absurd (d f g) | inr u ↦ u ] in
-          let k : slice_index m.known p ≡ j = ap (λ (r : ℕ). slice_index m.known r) f ∙ e in
-          omega arith
-    ];
-  }
-
-  -- it is settled
-  pub advanced_more : (j x : ℕ) → i < b.n → j < b.n → slice_index m.known i ≡ j → sum_at b i j < s → s ≤ b.count → x < 2 ^ b.bits → x ≡ entry (times b) b w i j
-      → IsAdvanced b w (settled_at m i j x) s i × (slice_index (settled_at m i j x).known i ≡ j + 1)
-  advanced_more j x li lj e l few lx is =
-      let next : MaySettle m i j = may_settle j li lj e l few in
-      let put : IsAdvanced b w (settled_at m i j x) s 0 = advanced_put b w m s i a i j x li lj e next l lx is in (
-        record {
-          bits = put.bits;
-          modulus = put.modulus;
-          n = put.n;
-          sound = put.sound;
-          entries = put.entries;
-          within = put.within;
-          above = λ p q lp lq u. put_grows b w m s i a i j x li lj e next l lx is p q (a.above p q lp lq u);
-        },
-        put_here b w m s i a i j x li lj e next l lx is,
-      )
-
-  -- row i is settled as far as the sums are below s
-  pub advanced_row : (j : ℕ) → i < b.n → slice_index m.known i ≡ j → s ≤ b.count → (j ≡ b.n) ⊎ ((j < b.n) × (s ≤ sum_at b i j)) → IsAdvanced b w m s (i + 1)
-  advanced_row j li e few end = record {
+  -- it had it before
+  pub settled_same : to ≤ slice_index m.known i → IsSettled b m s (i + 1)
+  settled_same l = record {
     bits = a.bits;
     modulus = a.modulus;
     n = a.n;
-    sound = a.sound;
-    entries = a.entries;
+    long = a.long;
+    wide = a.wide;
     within = a.within;
     above = λ p q lp lq u. elim (eq_or_below p i (let v : p < suc i = omega arith in v)) [
       | inr v ↦ a.above p q v lq u
       | inl f ↦
-          let k : slice_index m.known p ≡ j = ap (λ (r : ℕ). slice_index m.known r) f ∙ e in
-          let same : sum_at b p q ≡ sum_at b i q = ap (λ (r : ℕ). sum_at b r q) f in
-          elim (cases_lt q j) [
-            | inl v ↦ omega arith
-            | inr v ↦ elim end [
-              | inl g ↦ absurd (omega arith)
-              | inr g ↦
-                  let far : s ≤ sum_at b i j = g.1 in
-                  absurd (elim (cases_eq q j) [
-                    | inl g' ↦ let same' : sum_at b i q ≡ sum_at b i j = ap (λ (r : ℕ). sum_at b i r) g' in omega arith
-                    | inr d ↦ let less : sum_at b i j < sum_at b i q = smaller b i q i j h li lq (omega arith) (omega arith) (omega arith) (omega arith) in omega arith
-                  ])
-            ]
-          ]
+          let f' : slice_index m.known p ≡ slice_index m.known i = ap (λ (r : ℕ). slice_index m.known r) f in
+          let in_row : q < to = wide.all q lq (subst (λ (r : ℕ). sum_at b r q < s) f u) in
+          omega arith
     ];
   }
 
--- a greater limit
-pub advanced_later : (b : Basis) (w : List ℕ) (m : Matrix) (s s' i : ℕ) → s ≤ s' → IsAdvanced b w m s i → IsAdvanced b w m s' 0
-advanced_later b w m s s' i l a = record {
+-- where a row has no known entry, no row below it has one
+pub settled_rest : (b : Basis) (m : Elimination) (s i : ℕ) → IsSoundBasis b → s ≤ b.count → i < b.n → IsSettled b m s (i + 1) → slice_index m.known i ≡ 0 → IsSettled b m s b.n
+settled_rest b m s i h few li a z = record {
   bits = a.bits;
   modulus = a.modulus;
   n = a.n;
-  sound = a.sound;
-  entries = a.entries;
-  within = λ p q lp lq u. let v : sum_at b p q < s = a.within p q lp lq u in omega arith;
-  above = λ p q u lq v. absurd (omega arith);
+  long = a.long;
+  wide = a.wide;
+  within = a.within;
+  above = λ p q lp lq u. elim (cases_lt p (i + 1)) [
+    | inl v ↦ a.above p q v lq u
+    | inr v ↦
+        let less : sum_at b i 0 < sum_at b p q = smaller b p q i 0 h lp lq (omega arith) (omega arith) (omega arith) (omega arith) in
+        let known : 0 < slice_index m.known i = a.above i 0 (omega arith) (omega arith) (omega arith) in
+        absurd (omega arith)
+  ];
 }
 
--- a list with the same syndromes below k has the same entries below the sum k
-pub advanced_moved : (b : Basis) (w w' : List ℕ) (m : Matrix) (k i : ℕ) → IsSoundBasis b → IsWord b.bits b.n w → IsWord b.bits b.n w' → k < b.n → SameBelow (times b) b w w' k
-    → IsAdvanced b w m (rank_at b k) i → IsAdvanced b w' m (rank_at b k) i
-advanced_moved b w w' m k i h ww ww' lk same a = record {
-  bits = a.bits;
-  modulus = a.modulus;
-  n = a.n;
-  sound = a.sound;
-  entries = λ p q lp lq u. a.entries p q lp lq u ∙ (known_law (times b) b w w' k h.sound ww ww' lk same).before p q lp lq (a.within p q lp lq u);
-  within = a.within;
-  above = a.above;
-}
+-- a row above is known as far as the width of this one
+pub above_width : (b : Basis) (m : Elimination) (s i to p : ℕ) → IsSoundBasis b → s ≤ b.count → IsSettled b m s i → i < b.n → IsWidth b s i to → p < i → to ≤ slice_index m.known p
+above_width b m s i to p h few a li wide lp = go to wide.inside wide.below
+  where
+    go : (to : ℕ) → to ≤ b.n → ((q : ℕ) → q < to → sum_at b i q < s) → to ≤ slice_index m.known p
+    go zero inside below = omega arith
+    go (suc q) inside below =
+        let here : sum_at b i q < s = below q (omega arith) in
+        let less : sum_at b p q < sum_at b i q = smaller b i q p q h li (omega arith) (omega arith) (omega arith) (omega arith) (omega arith) in
+        let known : q < slice_index m.known p = a.above p q lp (omega arith) (omega arith) in
+        omega arith
 
 -- the one column of row i that may have the sum k is the next one
-pub only_column : (b : Basis) (w : List ℕ) (m : Matrix) (k i j : ℕ) → IsSoundBasis b → k < b.n → IsAdvanced b w m (rank_at b k) b.n → i < b.n → j < b.n → sum_at b i j ≡ rank_at b k → j ≡ slice_index m.known i
-only_column b w m k i j h lk a li lj e =
+pub only_column : (b : Basis) (m : Elimination) (k i j : ℕ) → IsSoundBasis b → k < b.n → IsSettled b m (rank_at b k) b.n → i < b.n → j < b.n → sum_at b i j ≡ rank_at b k → j ≡ slice_index m.known i
+only_column b m k i j h lk a li lj e =
     let few : rank_at b k < b.count = h.sound.shape.ranks_below k lk in
-    let reach : slice_index m.known i ≤ m.n = a.sound.width i (let f : m.n ≡ b.n = a.n in omega arith) in
+    let reach : slice_index m.known i ≤ b.n = a.wide i li in
     elim (cases_lt j (slice_index m.known i)) [
-      | inl u ↦ let v : sum_at b i j < rank_at b k = a.within i j li lj u in absurd (omega arith)
+      | inl u ↦ let v : sum_at b i j < rank_at b k = a.within i j li u in absurd (omega arith)
       | inr u ↦ elim (cases_eq j (slice_index m.known i)) [
         | inl f ↦ f
         | inr d ↦

@@ -1,11 +1,10 @@
 -- What the fields of a voter hold
-use Rattle.std.proofs.Common.{ℕ, ◌≡◌, ◌+◌, ◌%◌, ◌^◌, ◌<◌, ◌≤◌, Bool, false, List, [], ◌∷◌, ◌++◌, length, get_or, take, drop, ◌*◌, sym, ◌∙◌, ap, subst, arith, add-one}
+use Rattle.std.proofs.Common.{ℕ, ◌≡◌, ◌+◌, ◌%◌, ◌^◌, ◌<◌, ◌≤◌, Bool, false, List, [], ◌∷◌, ◌++◌, length, take, drop, ◌*◌, sym, ◌∙◌, ap, subst, arith, add-one}
 use Rattle.std.proofs.Math.Seq.{take-suc, take-append_seam}
 use Rattle.std.proofs.Math.Nat.{mod-eq_of_lt}
-use Rattle.std.proofs.lemmas.List.{get_or-map, length-map, length-take-le}
-use Rattle.std.proofs.lemmas.Nat.{mod_below, pow_pos, pow_below}
-use Rattle.order_theory.specs.Basis.{IsWord}
-use Rattle.order_theory.specs.Codes.{low_bits, marked}
+use Rattle.std.proofs.lemmas.List.{length-take-le}
+use Rattle.std.proofs.lemmas.Nat.{pow_below}
+use Rattle.order_theory.specs.Codes.{marked}
 
 -- one more mark is copied
 pub copied_more : (marks now checked : List Bool) (k : ℕ) (mark : Bool) → marks ≡ take k checked → mark ≡ marked checked k → now ≡ marks ++ mark ∷ [] → k < length checked → now ≡ take (k + 1) checked

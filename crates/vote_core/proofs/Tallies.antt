@@ -11,7 +11,7 @@ use Rattle.counting_theory.proofs.Tally.{tallied_none, tallied_row_none, tallied
 use Rattle.order_theory.specs.Basis.{Basis, IsSoundBasis, times, sum_at, rank_at}
 use Rattle.order_theory.specs.Errors.{part_rank}
 use Rattle.order_theory.specs.Voting.{IsElected, vote_at, votes_at, candidates_at}
-use Rattle.vote_core.specs.Advance.{HasNoVote, HasVote}
+use Rattle.vote_core.specs.Votes.{HasNoVote, HasVote}
 use Rattle.vote_core.proofs.Settled.{smaller}
 
 module _ (b : Basis) (w : List ℕ) (k : ℕ) (h : IsSoundBasis b) (lk : k < b.n) where

@@ -1,8 +1,11 @@
-pub mod Advance
-pub mod Shifts
 pub mod Found
+pub mod Kept
 pub mod Ledgers
+pub mod Polls
+pub mod Progress
+pub mod Reading
+pub mod RefusalLaws
 pub mod Rooms
 pub mod Turns
 pub mod Voters
-pub mod Kept
+pub mod Votes

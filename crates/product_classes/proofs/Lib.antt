@@ -1,0 +1,7 @@
+mod Shifting
+mod Places
+mod Growth
+mod Starts
+mod Sums
+mod Moves
+mod Staircase

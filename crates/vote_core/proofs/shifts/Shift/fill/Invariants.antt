@@ -1,9 +1,0 @@
-use Rattle.std.proofs.Common.{◌<◌}
-use Rattle.vote_core.proofs.Shifting.{HasFilled}
-use Rattle.vote_core.proofs.shifts.Shift.fill.Given as goal
-
-abbrev pub invariant-loop-i : goal.invariant-loop-i
-invariant-loop-i g l = record {
-  inside : l.from < l.basis.n;
-  filled : HasFilled l.basis l.by l.i l.self.next.items l.self.back.items;
-}
