@@ -86,12 +86,22 @@ fn first_row(round: Round, matrix: &GrowingRows, i: u32) -> u32
     }
 }
 
-/// Whether row i tells more than was known at so many pivots: it has no pivot, and more entries than there are pivots.
+/// Whether row i adds nothing to the rows before it, and its entries determine the function that it tells: they are more than
+/// the pivots, or as many where an error within the radius has no further pivot.
+fn is_determined(matrix: &GrowingRows, i: u32) -> bool
+    requires { i < matrix.now.n }
+{
+    let (reach, pivots) = (matrix.reach(i), matrix.pivots());
+    // the matrix has room for one pivot more than the radius
+    let is_full = matrix.most().checked_sub(pivots) == Some(1);
+    matrix.adds_nothing(i) && (reach > pivots || is_full && reach == pivots)
+}
+
+/// Whether row i tells more than was known at so many pivots.
 fn tells(matrix: &GrowingRows, i: u32, tried: Option<u32>) -> bool
     requires { i < matrix.now.n }
 {
-    let pivots = matrix.pivots();
-    tried != Some(pivots) && matrix.reach(i) > pivots && matrix.adds_nothing(i)
+    tried != Some(matrix.pivots()) && is_determined(matrix, i)
 }
 
 /// As `Guess::correct` says, among the places that are zeros.

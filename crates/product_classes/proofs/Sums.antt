@@ -1,14 +1,13 @@
 -- Columns of products, and their combinations
-use Rattle.std.proofs.Common.{ℕ, zero, suc, ◌≡◌, ◌+◌, ◌*◌, ◌<◌, List, [], length, set, take, drop, get_or, All, sym, ◌∙◌, ap, subst, inl, inr, arith, bit_xor}
+use Rattle.std.proofs.Common.{ℕ, zero, suc, ◌≡◌, ◌+◌, ◌*◌, ◌<◌, List, [], length, set, get_or, All, sym, ◌∙◌, ap, subst, inl, inr, arith, bit_xor}
 use Rattle.std.specs.Prelude.{slice_index, slice_index_or}
 use Rattle.std.proofs.lemmas.Bool.{cases_eq}
 use Rattle.std.proofs.lemmas.List.{get_or-set_same, get_or-set_other, get_or_default}
 use Rattle.field_theory.specs.Sums.{xor_sum}
 use Rattle.field_theory.proofs.Sums.{sum-same, sum-zero}
 use Rattle.gf_theory.specs.Field.{gf_mul}
-use Rattle.linear_theory.specs.Linear.{combine, dot}
+use Rattle.linear_theory.specs.Linear.{dot}
 use Rattle.gf_linear.specs.Cells.{cell}
-use Rattle.gf_linear.proofs.Steps.{part-row}
 use Rattle.order_theory.specs.Basis.{Basis, IsSoundBasis, times, vector}
 use Rattle.order_theory.specs.Errors.{entry}
 use Rattle.product_classes.specs.Columns.{AreOthersKept}
@@ -16,15 +15,6 @@ use Rattle.product_classes.proofs.Places.{one_pair}
 
 pub all_below : (xs : List ℕ) (s : ℕ) → ((q : ℕ) → q < length xs → get_or xs q 0 < s) → All (λ a. a < s) xs
 all_below xs s h q d l = subst (λ (x : ℕ). x < s) (get_or_default xs q 0 d l) (h q l)
-
--- one row more in a combination
-pub combined_more : (mul : ℕ → ℕ → ℕ) (width q k : ℕ) (factors rows xs ys : List ℕ) → k ≡ width → ((c : ℕ) → c < width → slice_index xs c ≡ combine mul q (slice_index factors) (cell rows width) c)
-    → ((c : ℕ) → c < width → slice_index ys c ≡ bit_xor (slice_index xs c) (mul (slice_index factors q) (slice_index (take k (drop (q * width) rows)) c)))
-    → (c : ℕ) → c < width → slice_index ys c ≡ combine mul (q + 1) (slice_index factors) (cell rows width) c
-combined_more mul width q k factors rows xs ys e before is c l =
-    is c l ∙ ap (λ (y : ℕ). bit_xor y (mul (slice_index factors q) (slice_index (take k (drop (q * width) rows)) c))) (before c l)
-    ∙ ap (λ (y : ℕ). bit_xor (combine mul q (slice_index factors) (cell rows width) c) (mul (slice_index factors q) y)) (part-row width q k rows c e l)
-    ∙ ap (λ (s : ℕ). combine mul s (slice_index factors) (cell rows width) c) (let f : suc q ≡ q + 1 = omega arith in f)
 
 -- the entry of a list, by its products with one vector
 pub entry_is : (b : Basis) (w row left right : List ℕ) (bits modulus bits' modulus' i j k x : ℕ) → IsSoundBasis b → bits ≡ b.bits → modulus ≡ b.modulus → bits' ≡ b.bits → modulus' ≡ b.modulus

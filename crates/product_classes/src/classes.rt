@@ -8,12 +8,13 @@ ghost use Rattle.product_classes.specs.Shifts.{AreShiftRooms};
 ghost use Rattle.product_classes.specs.Listings.{IsListingRoom};
 ghost use Rattle.product_classes.specs.Kept.{listed};
 
-use crate::columns::{classes_below, columns_of, combine, padded, write_range};
+use crate::columns::{classes_below, columns_of, padded, write_range};
 use crate::listing::{Listing, new_listing};
 use crate::reaches::write_reaches;
 use crate::shifts::{Shifts, new_shifts};
 use eval_basis::EvalBasis;
 use gf_field::Field;
+use gf_linear::combine_rows;
 use std::alloc::{AllocError, Global};
 use std::marker::Model;
 
@@ -240,18 +241,17 @@ impl Classes {
         requires word { IsWord basis.now.bits basis.now.n list.now }
         requires zeros { IsZeroBefore self.now.first list.now }
         requires room { self.now.size ≤ length values.old }
+        requires symbols { All (λ x. x < 2 ^ basis.now.bits) values.old }
         ensures long { length values.new ≡ length values.old }
         ensures symbols { All (λ x. x < 2 ^ basis.now.bits) values.new }
         ensures values { AreValues basis.now self.now list.now values.new self.now.limit }
     {
         // For its facts: the basis is sound.
         basis.n();
-        values.fill(0);
-        combine(
+        combine_rows(
             basis.field(),
             &list[self.first as usize..],
             &self.columns,
-            self.width,
             &mut values[..self.width],
         );
     }

@@ -2,7 +2,7 @@
 
 ghost use Rattle.std.specs.Prelude.{ℕ, ◌≡◌, ◌+◌, ◌-◌, ◌*◌, ◌/◌, ◌<◌, ◌≤◌, ◌^◌, length, slice_index, All, IfOk};
 ghost use Rattle.gf_theory.specs.Field.{gf_mul};
-ghost use Rattle.linear_theory.specs.Linear.{combine as combine_of, dot as dot_of};
+ghost use Rattle.linear_theory.specs.Linear.{dot as dot_of};
 ghost use Rattle.gf_linear.specs.Cells.{cell};
 ghost use Rattle.order_theory.specs.Basis.{times, vector, IsWord};
 ghost use Rattle.order_theory.specs.Errors.{entry};
@@ -10,7 +10,7 @@ ghost use Rattle.product_classes.specs.Columns.{ArePairs, AreRising, AreColumns,
 
 use eval_basis::EvalBasis;
 use gf_field::Field;
-use gf_linear::{add_scaled, dot};
+use gf_linear::dot;
 use std::alloc::{AllocError, Global};
 
 /// So many symbols in whole registers.
@@ -142,26 +142,6 @@ pub fn columns_of<F: Field>(
     let mut columns = vec![in alloc; 0; (n - first) * width]?;
     write_classes(basis, lefts, rights, first, width, &mut columns);
     Ok(columns)
-}
-
-/// The combination of rows of so many symbols, by the symbols of a list.
-pub fn combine<F: Field>(f: &F, factors: &[u8], rows: &[u8], width: usize, sum: &mut [u8])
-    requires fit { length rows.now ≡ length factors.now * width }
-    requires few { length factors.now ≤ 1024 }
-    requires narrow { width ≤ 1048591 }
-    requires width { length sum.old ≡ width }
-    requires factors { All (λ x. x < 2 ^ F.bits_of f.now) factors.now }
-    requires rows { All (λ x. x < 2 ^ F.bits_of f.now) rows.now }
-    ensures symbols { All (λ x. x < 2 ^ F.bits_of f.now) sum.new }
-    ensures long { length sum.new ≡ width }
-    ensures value { (c : ℕ) → c < width → slice_index sum.new c
-        ≡ combine_of (gf_mul (F.bits_of f.now) (F.modulus_of f.now)) (length factors.now)
-        (slice_index factors.now) (cell rows.now width) c }
-{
-    sum.fill(0);
-    for q in 0..factors.len() {
-        add_scaled(f, sum, factors[q], &rows[q * width..q * width + width]);
-    }
 }
 
 /// The number of the first of these classes, which are numbered by rising sums, whose sum is at least s.
