@@ -40,8 +40,8 @@ def codes():
     found = {"hermitian-4": small, "weight 3": small.replace("weight = 5", "weight = 3"),
              "improved 4": small.replace("weight = 5", "improved = 4"), "depth 3": small.replace("depth = 1", "depth = 3"),
              "packed": small + 'layout = "packed"\n', "packed, depth 2": small.replace("depth = 1", "depth = 2") + 'layout = "packed"\n',
-             "curve-8, t 2": curve.replace("weight = 24", "improved = 5"),
-             "curve-8, t 1, packed": curve.replace("weight = 24", "improved = 3") + 'layout = "packed"\n'}
+             "curve-8, t 2": curve.replace("improved = 7", "improved = 5"),
+             "curve-8, t 1, packed": curve.replace("improved = 7", "improved = 3") + 'layout = "packed"\n'}
     found.update((name, text) for name, text in SPACES.items() if serves_spaces())
     return found
 
