@@ -120,9 +120,10 @@ fn run_line<X: Threads + Sync, D: Source, I: Source, O: Sink, R: Sink, G: Gate>(
     Ok(run(rt, alloc, &words, desc, input, out, report, gate))
 }
 
-// How many bytes a source still gives; of more than 128 it is 128.
+// How many bytes a source still gives; of more than 128 it is 128. The first call, which may be one that fails, takes none.
 fn count_left<I: Source>(input: &mut I) -> usize {
     let mut rest = [0u8; 128];
+    let _ = input.read(&mut rest[..0]);
     match fill(input, &mut rest) {
         Filled::Whole => rest.len(),
         Filled::End { got } => got,

@@ -1,8 +1,9 @@
-//! Each call of the descriptor, the input, out and report fails in turn, until a run ends to which none does.
+//! Each call of the descriptor, the input, out and report fails in turn, until a run ends to which none does; and what each of
+//! these runs leaves of its input.
 
 use crate::bound_rows::TABLE;
 use crate::descriptors::HERMITIAN_4;
-use crate::rig::{Ends, Row, WORKING, done, is_met, missed, stopped};
+use crate::rig::{Ends, Row, WORKING, done, is_met_with_unread, stopped};
 use agcode_top::Status;
 use std::alloc::{AllocError, Global};
 use std::test::Fail;
@@ -76,7 +77,20 @@ fn stopping<'a>(row: &Row<'a>, object: Object, fails: &'a [u64]) -> Row<'a> {
     }
 }
 
-// Whether each of so many calls of an object stops the run with nothing on out, and a call after them does not.
+// How many bytes a row whose call of this number of an object fails leaves of its input, but at most 128: all, where the
+// descriptor is not read; those behind the pieces that the reads before it gave; and none, where all was read.
+fn left_at(row: &Row, object: Object, call: u64) -> usize {
+    let piece = row.ends.input_piece as usize;
+    let given = (call as usize).saturating_mul(piece);
+    match object {
+        Object::Desc => row.input.len().min(128),
+        Object::Input => row.input.len().saturating_sub(given).min(128),
+        Object::Out => 0,
+    }
+}
+
+// Whether each of so many calls of an object stops the run with nothing on out, and a call after them does not: then all of the
+// input is read.
 fn each_stops<X: Threads + Sync>(
     rt: &X,
     alloc: Global,
@@ -86,12 +100,13 @@ fn each_stops<X: Threads + Sync>(
 ) -> Result<bool, AllocError> {
     for call in 0..calls {
         let fails = [call];
-        if !is_met(rt, alloc, &stopping(row, object, &fails))? {
+        let unread = left_at(row, object, call);
+        if !is_met_with_unread(rt, alloc, &stopping(row, object, &fails), unread)? {
             return Ok(false);
         }
     }
     let fails = [calls];
-    is_met(rt, alloc, &failing(row, object, &fails))
+    is_met_with_unread(rt, alloc, &failing(row, object, &fails), 0)
 }
 
 #[test]
@@ -165,8 +180,8 @@ fn erase_stops_at_each_call(rt: HostRuntime) -> Result<(), Fail> {
         ends: tells(&[1]),
         ..row
     };
-    assert!(rt; is_met(&rt, alloc, &untold)?);
-    assert!(rt; is_met(&rt, alloc, &told)?);
+    assert!(rt; is_met_with_unread(&rt, alloc, &untold, 0)?);
+    assert!(rt; is_met_with_unread(&rt, alloc, &told, 0)?);
     Ok(())
 }
 
@@ -184,6 +199,21 @@ fn encoding<'a>(file: &'a [u8], ends: Ends<'a>, status: Status, out: &'a [u8]) -
     }
 }
 
+// The number of the first row that is not met, or that does not leave so many bytes of its input.
+fn missed<X: Threads + Sync>(
+    rt: &X,
+    alloc: Global,
+    rows: &[(Row, usize)],
+) -> Result<Option<usize>, AllocError> {
+    for (index, turn) in rows.iter().enumerate() {
+        if !is_met_with_unread(rt, alloc, &turn.0, turn.1)? {
+            return Ok(Some(index));
+        }
+    }
+    Ok(None)
+}
+
+// A file is read to its end, or to the read that fails, before a group of it is written.
 #[test]
 fn encode_stops_after_the_groups_it_has(rt: HostRuntime) -> Result<(), Fail> {
     let reads = |fails| Ends {
@@ -199,42 +229,63 @@ fn encode_stops_after_the_groups_it_has(rt: HostRuntime) -> Result<(), Fail> {
     zeros[32..].copy_from_slice(&EMPTY);
     let (unread, unwritten, done) = (Status::InputFault, Status::OutFault, Status::Done);
     let rows = [
-        encoding(&[], reads(&[0]), unread, &[]),
-        encoding(&[], reads(&[1]), done, &EMPTY),
-        encoding(&[], writes(&[0]), unwritten, &[]),
-        encoding(&[], writes(&[1]), done, &EMPTY),
-        encoding(&[0x41], reads(&[0]), unread, &[]),
-        encoding(&[0x41], reads(&[1]), unread, &BYTE_41[..8]),
-        encoding(&[0x41], reads(&[2]), done, &BYTE_41),
-        encoding(&[0x41], writes(&[0]), unwritten, &[]),
-        encoding(&[0x41], writes(&[1]), unwritten, &BYTE_41[..8]),
-        encoding(&[0x41], writes(&[2]), done, &BYTE_41),
+        (encoding(&[], reads(&[0]), unread, &[]), 0),
+        (encoding(&[], reads(&[1]), done, &EMPTY), 0),
+        (encoding(&[], writes(&[0]), unwritten, &[]), 0),
+        (encoding(&[], writes(&[1]), done, &EMPTY), 0),
+        (encoding(&[0x41], reads(&[0]), unread, &[]), 1),
+        (encoding(&[0x41], reads(&[1]), unread, &BYTE_41[..8]), 0),
+        (encoding(&[0x41], reads(&[2]), done, &BYTE_41), 0),
+        (encoding(&[0x41], writes(&[0]), unwritten, &[]), 0),
+        (encoding(&[0x41], writes(&[1]), unwritten, &BYTE_41[..8]), 0),
+        (encoding(&[0x41], writes(&[2]), done, &BYTE_41), 0),
         // of 8, 16 and 24 bits whole groups are 6, 12 and 24
-        encoding(&[0; 3], reads(&[0]), unread, &[]),
-        encoding(&[0; 3], reads(&[1]), unread, &zeros[..8]),
-        encoding(&[0; 3], reads(&[2]), unread, &zeros[..16]),
-        encoding(&[0; 3], reads(&[3]), unread, &zeros[..32]),
-        encoding(&[0; 3], reads(&[4]), done, &zeros),
-        encoding(&[0; 3], writes(&[0]), unwritten, &[]),
-        encoding(&[0; 3], writes(&[1]), unwritten, &zeros[..8]),
-        encoding(&[0; 3], writes(&[2]), unwritten, &zeros[..16]),
-        encoding(&[0; 3], writes(&[3]), unwritten, &zeros[..24]),
-        encoding(&[0; 3], writes(&[4]), unwritten, &zeros[..32]),
-        encoding(&[0; 3], writes(&[5]), done, &zeros),
+        (encoding(&[0; 3], reads(&[0]), unread, &[]), 3),
+        (encoding(&[0; 3], reads(&[1]), unread, &zeros[..8]), 2),
+        (encoding(&[0; 3], reads(&[2]), unread, &zeros[..16]), 1),
+        (encoding(&[0; 3], reads(&[3]), unread, &zeros[..32]), 0),
+        (encoding(&[0; 3], reads(&[4]), done, &zeros), 0),
+        (encoding(&[0; 3], writes(&[0]), unwritten, &[]), 0),
+        (encoding(&[0; 3], writes(&[1]), unwritten, &zeros[..8]), 0),
+        (encoding(&[0; 3], writes(&[2]), unwritten, &zeros[..16]), 0),
+        (encoding(&[0; 3], writes(&[3]), unwritten, &zeros[..24]), 0),
+        (encoding(&[0; 3], writes(&[4]), unwritten, &zeros[..32]), 0),
+        (encoding(&[0; 3], writes(&[5]), done, &zeros), 0),
     ];
     let missed = missed(&rt, rt.alloc(), &rows)?;
     assert!(rt; missed.is_none(), "{missed:?}");
     Ok(())
 }
 
-// The rows are met with 1 and with 8 workers.
-fn assert_decodes<X: Threads + Sync>(rt: &X, alloc: Global, rows: &[Row]) -> Result<(), Fail> {
-    for line in ["decode D", "decode --workers 8 D"] {
-        for row in rows {
-            let row = Row { line, ..*row };
-            if !is_met(rt, alloc, &row)? {
-                return Err(Fail::new(line));
-            }
+// The rows are met with 1 and with 8 workers, and leave so many bytes of the input with 1 and so many with 8.
+fn assert_decodes<X: Threads + Sync>(
+    rt: &X,
+    alloc: Global,
+    rows: &[(Row, usize, usize)],
+) -> Result<(), Fail> {
+    for turn in rows {
+        let (one, eight) = ("decode D", "decode --workers 8 D");
+        if !is_met_with_unread(
+            rt,
+            alloc,
+            &Row {
+                line: one,
+                ..turn.0
+            },
+            turn.1,
+        )? {
+            return Err(Fail::new(one));
+        }
+        if !is_met_with_unread(
+            rt,
+            alloc,
+            &Row {
+                line: eight,
+                ..turn.0
+            },
+            turn.2,
+        )? {
+            return Err(Fail::new(eight));
         }
     }
     Ok(())
@@ -272,26 +323,26 @@ fn decode_stops_after_the_bytes_it_is_sure_of(rt: HostRuntime) -> Result<(), Fai
     let mut zeros = [0u8; 40];
     zeros[32..].copy_from_slice(&EMPTY);
     let (unread, untold, unwritten) = (Status::InputFault, Status::ReportFault, Status::OutFault);
-    // one group is held back, and each carries six bits
+    // one group is held back, and each carries six bits; with 8 workers a window has eight groups, and all are read
     let rows = [
-        decoding(&EMPTY, reads(&[0]), unread, &[]),
-        decoding(&EMPTY, reads(&[1]), unread, &[]),
-        decoding(&EMPTY, tells(&[0]), untold, &[]),
-        decoding(&BYTE_41, reads(&[0]), unread, &[]),
-        decoding(&BYTE_41, reads(&[1]), unread, &[]),
-        decoding(&BYTE_41, reads(&[2]), unread, &[]),
-        decoding(&BYTE_41, writes(&[0]), unwritten, &[]),
-        decoding(&BYTE_41, tells(&[0]), untold, &[0x41]),
-        decoding(&zeros, reads(&[0]), unread, &[]),
-        decoding(&zeros, reads(&[1]), unread, &[]),
-        decoding(&zeros, reads(&[2]), unread, &[]),
-        decoding(&zeros, reads(&[3]), unread, &[0]),
-        decoding(&zeros, reads(&[4]), unread, &[0; 2]),
-        decoding(&zeros, reads(&[5]), unread, &[0; 3]),
-        decoding(&zeros, writes(&[0]), unwritten, &[]),
-        decoding(&zeros, writes(&[1]), unwritten, &[0]),
-        decoding(&zeros, writes(&[2]), unwritten, &[0; 2]),
-        decoding(&zeros, tells(&[0]), untold, &[0; 3]),
+        (decoding(&EMPTY, reads(&[0]), unread, &[]), 8, 8),
+        (decoding(&EMPTY, reads(&[1]), unread, &[]), 0, 0),
+        (decoding(&EMPTY, tells(&[0]), untold, &[]), 0, 0),
+        (decoding(&BYTE_41, reads(&[0]), unread, &[]), 16, 16),
+        (decoding(&BYTE_41, reads(&[1]), unread, &[]), 8, 8),
+        (decoding(&BYTE_41, reads(&[2]), unread, &[]), 0, 0),
+        (decoding(&BYTE_41, writes(&[0]), unwritten, &[]), 0, 0),
+        (decoding(&BYTE_41, tells(&[0]), untold, &[0x41]), 0, 0),
+        (decoding(&zeros, reads(&[0]), unread, &[]), 40, 40),
+        (decoding(&zeros, reads(&[1]), unread, &[]), 32, 32),
+        (decoding(&zeros, reads(&[2]), unread, &[]), 24, 24),
+        (decoding(&zeros, reads(&[3]), unread, &[0]), 16, 16),
+        (decoding(&zeros, reads(&[4]), unread, &[0; 2]), 8, 8),
+        (decoding(&zeros, reads(&[5]), unread, &[0; 3]), 0, 0),
+        (decoding(&zeros, writes(&[0]), unwritten, &[]), 16, 0),
+        (decoding(&zeros, writes(&[1]), unwritten, &[0]), 8, 0),
+        (decoding(&zeros, writes(&[2]), unwritten, &[0; 2]), 0, 0),
+        (decoding(&zeros, tells(&[0]), untold, &[0; 3]), 0, 0),
     ];
     assert_decodes(&rt, rt.alloc(), &rows)
 }
@@ -323,15 +374,15 @@ fn decode_is_done_where_no_call_fails(rt: HostRuntime) -> Result<(), Fail> {
     let mut zeros = [0u8; 40];
     zeros[32..].copy_from_slice(&EMPTY);
     let rows = [
-        decoded(&EMPTY, reads(&[2]), &[], NO_BYTES),
-        decoded(&EMPTY, writes(&[0]), &[], NO_BYTES),
-        decoded(&EMPTY, tells(&[1]), &[], NO_BYTES),
-        decoded(&BYTE_41, reads(&[3]), &[0x41], ONE_BYTE),
-        decoded(&BYTE_41, writes(&[1]), &[0x41], ONE_BYTE),
-        decoded(&BYTE_41, tells(&[1]), &[0x41], ONE_BYTE),
-        decoded(&zeros, reads(&[6]), &[0; 3], THREE_BYTES),
-        decoded(&zeros, writes(&[3]), &[0; 3], THREE_BYTES),
-        decoded(&zeros, tells(&[1]), &[0; 3], THREE_BYTES),
+        (decoded(&EMPTY, reads(&[2]), &[], NO_BYTES), 0, 0),
+        (decoded(&EMPTY, writes(&[0]), &[], NO_BYTES), 0, 0),
+        (decoded(&EMPTY, tells(&[1]), &[], NO_BYTES), 0, 0),
+        (decoded(&BYTE_41, reads(&[3]), &[0x41], ONE_BYTE), 0, 0),
+        (decoded(&BYTE_41, writes(&[1]), &[0x41], ONE_BYTE), 0, 0),
+        (decoded(&BYTE_41, tells(&[1]), &[0x41], ONE_BYTE), 0, 0),
+        (decoded(&zeros, reads(&[6]), &[0; 3], THREE_BYTES), 0, 0),
+        (decoded(&zeros, writes(&[3]), &[0; 3], THREE_BYTES), 0, 0),
+        (decoded(&zeros, tells(&[1]), &[0; 3], THREE_BYTES), 0, 0),
     ];
     assert_decodes(&rt, rt.alloc(), &rows)
 }
@@ -342,6 +393,10 @@ fn encode_and_decode_stop_at_the_descriptor(rt: HostRuntime) -> Result<(), Fail>
     let rows = [
         done("encode D", HERMITIAN_4, &[0x41], &BYTE_41),
         decoded(&BYTE_41, WORKING, &[0x41], ONE_BYTE),
+        Row {
+            line: "decode --workers 8 D",
+            ..decoded(&BYTE_41, WORKING, &[0x41], ONE_BYTE)
+        },
     ];
     for row in rows {
         assert!(rt; each_stops(&rt, alloc, &row, Object::Desc, 2)?);
